@@ -1,0 +1,50 @@
+-- Demand 3, as one claim about the calls' arguments and answers, for all pairings of flat and nibbles: document 01, "Return", its last lines.
+-- `Hands (image s) ..` is the promise of denibblize, `Hands (archiveOf 16 d) ..` that of the archive writer, and `number (check 16 d a)` that of the
+-- checker: the claim speaks of what these promise, and of nothing else.
+use mathlib.Core.Path.{_≡_}
+use mathlib.Core.Logic.{_↔_}
+use mathlib.Core.List.{List}
+use Prim.Native.Nat.{ℕ, _*_, _≤_}
+use lib.ListN.{length, take}
+use Rattle.lists.specs.Fill.{Bytes}
+use Rattle.outcome.specs.declared.Handed.{Handed}
+use Rattle.outcome.specs.Outcome.{Outcome, given, _>>=_, number, Hands}
+use Rattle.files.specs.Contents.{Contents, contents}
+use Rattle.archive.specs.Archive.{blocks, archiveOf, check}
+use Rattle.stream.specs.Stream.{image}
+
+-- a disk as it arrives: flat, or as nibbles
+pub data Disk : Type 0 where
+  flat : List ℕ → Disk
+  nibbles : List ℕ → Disk
+
+-- what arrives is bytes
+abbrev pub OfBytes : Disk → Type 0
+OfBytes (flat d) = Bytes d
+OfBytes (nibbles s) = Bytes s
+
+-- its contents (01: load): a nibble disk is judged by its unrolled image
+abbrev pub contentsOf : Disk → Outcome Contents
+contentsOf (flat d) = contents 16 d
+contentsOf (nibbles s) = image s >>= contents 16
+
+-- both disks have contents, and these are equal
+abbrev pub EqualContents : Disk → Disk → Type 0
+EqualContents a b = (c : Contents) × (contentsOf a ≡ given c) × (contentsOf b ≡ given c)
+
+-- e is what writer and checker are handed for a disk: the flat disk itself, or the bytes that a call of denibblize wrote
+abbrev pub ImageOf : Disk → List ℕ → Type 0
+ImageOf (flat d) e = d ≡ e
+ImageOf (nibbles s) e = (before after : List ℕ) × (r : Handed) × Hands (image s) before after r × (r .refusal ≡ 0) × (e ≡ take 143360 after)
+
+-- demand 3
+pub record Agreement : Type 0 where
+  -- where the checker passes two archives, each against its own disk, the archives are equal exactly when the disks have equal contents
+  pub equal : (a b : Disk) → OfBytes a → OfBytes b → (d e : List ℕ) → ImageOf a d → ImageOf b e
+      → (v w : List ℕ) → number (check 16 d v) ≡ 0 → number (check 16 e w) ≡ 0 → ((v ≡ w) ↔ EqualContents a b)
+  -- what is written into enough lent space is passed against exactly the disks with equal contents
+  pub own : (a : Disk) → OfBytes a → (d : List ℕ) → ImageOf a d → (c : Contents) → contentsOf a ≡ given c → blocks c ≤ 4096
+      → (before after : List ℕ) (r : Handed) → 256 * blocks c ≤ length before → Hands (archiveOf 16 d) before after r
+      → (r .refusal ≡ 0)
+      × (r .length ≡ 256 * blocks c)
+      × ((b : Disk) → OfBytes b → (e : List ℕ) → ImageOf b e → ((number (check 16 e (take (r .length) after)) ≡ 0) ↔ EqualContents a b))

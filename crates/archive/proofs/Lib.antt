@@ -1,0 +1,7 @@
+pub mod Archive
+pub mod Back
+pub mod Blocks
+pub mod Reader
+pub mod Returns
+pub mod Steps
+pub mod Survey

@@ -1,0 +1,5 @@
+pub mod Sectors
+pub mod Numbers
+pub mod Places
+pub mod Chain
+pub mod Steps

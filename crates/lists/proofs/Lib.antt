@@ -1,0 +1,15 @@
+pub mod Laws
+pub mod Table
+pub mod Bits
+pub mod Among
+pub mod Split
+pub mod Put
+pub mod Cat
+pub mod Blocks
+pub mod Fills
+pub mod Chunks
+pub mod Bounds
+pub mod Placed
+pub mod Equal
+pub mod Select
+pub mod Words

@@ -1,0 +1,32 @@
+-- What fits is put in, and what does not leaves the space as it was. Assumes nothing.
+use mathlib.Core.Path.{_≡_, refl}
+use mathlib.Core.List.{List}
+use Prim.Native.Nat.{ℕ, _+_, _-_, _<_, _≤_}
+use native.Mathlib.Omega.{arith}
+use lib.ListN.{length, replicate, length-replicate}
+use borrow.Author.Tests.{le-leb, lt-leb}
+use borrow.Author.Needs.{needs}
+use Rattle.lists.specs.Fill.{put, placed}
+
+module _ (at : ℕ) (x d : List ℕ) where
+  pub placed-past : length d < at → d ≡ placed at x d
+  unfolding placed
+  placed-past h = rw (lt-leb (at + length x) (length d) (omega arith)) refl
+
+  pub placed-short : at ≤ length d → length d - at < length x → d ≡ placed at x d
+  unfolding placed
+  placed-short h l = rw (lt-leb (at + length x) (length d) (omega arith)) refl
+
+  pub placed-fits : (o : List ℕ) → at ≤ length d → length x ≤ length d - at → o ≡ put at x d → o ≡ placed at x d
+  unfolding placed
+  placed-fits o h l e = rw (le-leb (at + length x) (length d) (omega arith)) e
+
+-- the same, of n times v
+module _ (at n v : ℕ) (d : List ℕ) where
+  pub filled-short : at ≤ length d → length d - at < n → d ≡ placed at (replicate n v) d
+  filled-short h l = placed-short at (replicate n v) d h (rw length-replicate l)
+
+  pub filled-fits : (o : List ℕ) → at ≤ length d → n ≤ length d - at → o ≡ put at (replicate n v) d → o ≡ placed at (replicate n v) d
+  filled-fits o h l = placed-fits at (replicate n v) d o h (rw length-replicate l)
+
+pub ruleset placing = (placed-past, placed-short, placed-fits, filled-short, filled-fits, needs)

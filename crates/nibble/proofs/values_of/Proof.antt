@@ -1,0 +1,16 @@
+use Rattle.nibble.proofs.Decode.{lengthened}
+use Rattle.nibble.proofs.values_of.Statement.{statement}
+use Rattle.nibble.proofs.values_of.Tie as tie
+
+pub values-of-spec : {M : Type 1} → statement M
+values-of-spec =
+    tie.close
+    (tie.spec
+    (λ c κs. search lengthened)  -- reading-requires
+    (λ c κs. search lengthened)  -- lengthened-requires
+    (λ c. search lengthened)  -- slice-aggregate-values-with
+    (λ c κs. search lengthened)  -- values-with-requires
+    (λ c. search lengthened)  -- returns
+    (λ c κs. search lengthened)  -- values-with-requires-2
+    (λ c. search lengthened)  -- returns-2
+    )

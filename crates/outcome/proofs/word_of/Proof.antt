@@ -1,0 +1,45 @@
+use Rattle.outcome.proofs.Words.{words}
+use Rattle.outcome.proofs.word_of.Statement.{statement}
+use Rattle.outcome.proofs.word_of.Tie as tie
+
+pub word-of-spec : {M : Type 1} → statement M
+word-of-spec =
+    tie.close
+    (tie.spec
+    (λ c. search words)  -- enum-told
+    (λ c. search words)  -- enum-told-2
+    (λ c. search words)  -- enum-told-3
+    (λ c. search words)  -- enum-told-4
+    (λ c. search words)  -- enum-told-5
+    (λ c. search words)  -- enum-told-6
+    (λ c. search words)  -- enum-told-7
+    (λ c. search words)  -- enum-told-8
+    (λ c. search words)  -- enum-told-9
+    (λ c. search words)  -- enum-told-10
+    (λ c. search words)  -- enum-told-11
+    (λ c. search words)  -- enum-told-12
+    (λ c. search words)  -- enum-told-13
+    (λ c. search words)  -- enum-told-14
+    (λ c. search words)  -- enum-told-15
+    (λ c. search words)  -- enum-told-16
+    (λ c. search words)  -- enum-told-17
+    (λ c. search words)  -- enum-told-18
+    (λ c. search words)  -- returns
+    (λ c. search words)  -- returns-2
+    (λ c. search words)  -- returns-3
+    (λ c. search words)  -- returns-4
+    (λ c. search words)  -- returns-5
+    (λ c. search words)  -- returns-6
+    (λ c. search words)  -- returns-7
+    (λ c. search words)  -- returns-8
+    (λ c. search words)  -- returns-9
+    (λ c. search words)  -- returns-10
+    (λ c. search words)  -- returns-11
+    (λ c. search words)  -- returns-12
+    (λ c. search words)  -- returns-13
+    (λ c. search words)  -- returns-14
+    (λ c. search words)  -- returns-15
+    (λ c. search words)  -- returns-16
+    (λ c. search words)  -- returns-17
+    (λ c. search words)  -- returns-18
+    )

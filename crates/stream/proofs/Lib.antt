@@ -1,0 +1,6 @@
+pub mod Marks
+pub mod Scanning
+pub mod Sizes
+pub mod Unrolls
+pub mod Written
+pub mod Seeks

@@ -1,0 +1,93 @@
+-- Where a mark is found: behind a gap that has no byte D5h. And what is free of D5h: 4-and-4, nibbles, epilogues, gaps. Assumes nothing.
+use mathlib.Core.Path.{_≡_, refl, ap}
+use mathlib.Core.Bool.{Bool, true, false, cond, not, _&&_}
+use mathlib.Core.List.{List, [], _∷_, _++_}
+use mathlib.Core.Option.{Option, none, some}
+use Prim.Native.Nat.{ℕ, zero, suc, _/_, _<_}
+use native.Mathlib.Omega.{arith}
+use borrow.Author.Tests.{eq-eqb, ne-eqb}
+use lib.Bits.{bitOr}
+use lib.Dec.{T, eqb, T-not, eqb-refl, eqb→eq}
+use lib.ListN.{length, getD, drop, replicate, length-drop, List·getD-eq-default}
+use Rattle.lists.proofs.Laws.{tab-all}
+use Rattle.lists.proofs.Split.{by-lt}
+use Rattle.lists.proofs.Table.{every, test-at}
+use Rattle.nibble.specs.Nibble.{writes, writeOf, nibbleOf, encode}
+use Rattle.stream.specs.Stream.{after, of44, four}
+use Rattle.stream.specs.Pieces.{Free}
+
+-- ---- free of D5h
+pub free-nil : Free []
+free-nil k e = omega arith
+
+-- two lists free of it, one behind the other
+pub free-append : (a b : List ℕ) → Free a → Free b → Free (a ++ b)
+free-append [] b h i k = i k
+free-append (x ∷ a) b h i zero = h zero
+free-append (x ∷ a) b h i (suc k) = free-append a b (λ j. h (suc j)) i k
+
+-- a gap of one byte
+pub free-replicate : (n v : ℕ) → (v ≡ 0xD5 → ⊥) → Free (replicate n v)
+free-replicate zero v p k = free-nil k
+free-replicate (suc n) v p zero = p
+free-replicate (suc n) v p (suc k) = free-replicate n v p k
+
+-- by a test of each byte, for a list that is written out
+abbrev other : ℕ → ℕ → Bool
+other k x = not (eqb x 0xD5)
+
+-- the test says so
+is-other : (k x : ℕ) → T (other k x) → x ≡ 0xD5 → ⊥
+is-other k x t e = T-not (eqb x 0xD5) t (rw e (eqb-refl 0xD5))
+
+-- each byte of g passes the test
+pub free-test : (g : List ℕ) → T (every other 0 g) → Free g
+free-test g t k e =
+    by-lt k (length g) (λ h. is-other k _ (test-at other g t k h) e) (λ h. omega (arith, List·getD-eq-default g 0 {n = k} h))
+
+-- what ends an address and the data
+pub free-epilogue : Free (0xDE ∷ 0xAA ∷ 0xEB ∷ [])
+free-epilogue = free-test (0xDE ∷ 0xAA ∷ 0xEB ∷ []) tt
+
+-- a nibble of the write table
+pub free-write : (v : ℕ) → writeOf v ≡ 0xD5 → ⊥
+unfolding writes writeOf
+free-write v = free-test writes tt v
+
+-- what is written of a sector
+pub free-encode : (d : List ℕ) → Free (encode d)
+unfolding encode nibbleOf
+free-encode d = tab-all (λ (x : ℕ). x ≡ 0xD5 → ⊥) (nibbleOf d) 343 (omega arith) (λ k. free-write _)
+
+-- ---- 4-and-4, by computing the 256 bytes
+-- there and back
+pub four-back : (v : ℕ) → v < 256 → of44 (bitOr (v / 2) 0xAA) (bitOr v 0xAA) ≡ v
+four-back v h = eqb→eq _ v (test-at (λ k x. eqb (of44 (bitOr (k / 2) 0xAA) (bitOr k 0xAA)) k) (replicate 256 0) tt v h)
+
+-- a byte in 4-and-4
+pub free-four : (v : ℕ) → v < 256 → Free (four v)
+free-four v h = free-test (four v) (test-at (λ k x. every other 0 (four k)) (replicate 256 0) tt v h)
+
+-- ---- the search for a mark D5 AA c
+-- behind a gap free of D5h the mark is found
+pub after-found : (c : ℕ) (g rest : List ℕ) → Free g → after c (g ++ (0xD5 ∷ 0xAA ∷ c ∷ rest)) ≡ some rest
+unfolding after
+after-found c [] rest h = rw (eq-eqb c c refl) refl
+after-found c (x ∷ g) rest h = rw (ne-eqb x 0xD5 (h zero)) (after-found c g rest (λ k. h (suc k)))
+
+-- without D5h there is no mark
+pub after-none : (c : ℕ) (g : List ℕ) → Free g → after c g ≡ none
+unfolding after
+after-none c [] h = refl
+after-none c (x ∷ g) h = rw (ne-eqb x 0xD5 (h zero)) (after-none c g (λ k. h (suc k)))
+
+-- what stands behind a mark is shorter
+shorter : (b : Bool) (o : Option (List ℕ)) (s r : List ℕ) → (o ≡ some r → length r < length s) → cond b (some (drop 2 s)) o ≡ some r → length r < suc (length s)
+shorter true o s r below e = let q : drop 2 s ≡ r = cc in omega (arith, length-drop 2 s, ap length q)
+shorter false o s r below e = omega (arith, below e)
+
+-- the same of the search
+pub after-shorter : (c : ℕ) (s r : List ℕ) → after c s ≡ some r → length r < length s
+unfolding after
+after-shorter c [] r e = let z : _≡_ {A = ℕ} 0 1 = cc in absurd (omega arith)
+after-shorter c (x ∷ s) r e = shorter (eqb x 0xD5 && (eqb (getD s 0 0) 0xAA && eqb (getD s 1 0) c)) (after c s) s r (after-shorter c s r) e

@@ -1,0 +1,21 @@
+-- The search for the byte D5h, with which every mark begins: document 01, "Fields".
+use mathlib.Core.Path.{_≡_}
+use mathlib.Core.Bool.{cond}
+use mathlib.Core.List.{List, [], _∷_}
+use Prim.Native.Nat.{ℕ, suc, _+_, _<_}
+use lib.Dec.{eqb}
+use lib.ListN.{getD}
+
+-- how many elements stand before the first D5h; all, where there is none
+unfoldable pub skip : List ℕ → ℕ
+skip [] = 0
+skip (x ∷ xs) = cond (eqb x 0xD5) 0 (suc (skip xs))
+
+-- ---- what the steps of the search promise each other
+-- 1 for D5h, else 0
+abbrev pub isMark : ℕ → ℕ
+isMark b = cond (eqb b 0xD5) 1 0
+
+-- if r is 0, no D5h stands at the n places from i on
+pub record Clear (s : List ℕ) (i r n : ℕ) : Type 0 where
+  pub clear : r ≡ 0 → (j : ℕ) → j < n → getD s (i + j) 0 ≡ 0xD5 → ⊥
