@@ -1,14 +1,14 @@
 -- The turns of the loops over a name's bytes, a page's entries and the catalog's pages, and what each return gives. Assumes nothing.
 use mathlib.Core.Path.{_≡_, refl, sym, ap, _∙_}
-use mathlib.Core.Bool.{Bool, true, false, not, _&&_, _||_}
-use mathlib.Core.List.{List, [], _∷_}
+use mathlib.Core.Bool.{Bool, true, false, cond, not, _&&_, _||_}
+use mathlib.Core.List.{List, [], _∷_, _++_, foldl, flatMap}
 use Prim.Native.Nat.{ℕ, suc, _+_, _*_, _-_, _<_, _≤_}
-use native.Mathlib.Nat.{add-zero}
+use native.Mathlib.Nat.{add-zero, zero-add}
 use native.Mathlib.Omega.{arith}
-use lib.ListN.{length, getD, take, drop, List·getD-eq-default, drop-of-length-le}
+use lib.ListN.{length, getD, take, drop, length-append, List·getD-eq-default, drop-of-length-le}
 use lib.Seq.{drop-cons, take-nil}
 use lib.Dec.{eqb}
-use borrow.Author.Tests.{eq-eqb, ne-eqb, not-true, not-false}
+use borrow.Author.Tests.{lt-ltb, le-ltb, eq-eqb, ne-eqb, not-true, not-false}
 use borrow.Author.Needs.{needs}
 use Rattle.lists.specs.Select.{all, filter, among}
 use Rattle.lists.proofs.Split.{by-lt, by-test}
@@ -21,9 +21,9 @@ use Rattle.disk.specs.Vtoc.{readable}
 use Rattle.disk.specs.Vtoc.{vtoc}
 use Rattle.disk.specs.Disk.{place, byteOf, start, onDisk, sectors}
 use Rattle.disk.specs.Chain.{walk}
-use Rattle.disk.proofs.Steps.{made, rest, rest-start, rest-full, rest-off, rest-bad, rest-end, rest-more, count-is}
-use Rattle.catalog.specs.Catalog.{Entry, live, entryAt, entriesOf, plainNames, lastPage, nextPage, soundPage, firstPage, pages}
-use Rattle.catalog.specs.Pages.{plainEntry, counted, walked, pagesCounted}
+use Rattle.disk.proofs.Steps.{made, rest, rest-start, rest-full, rest-off, rest-bad, rest-end, rest-more}
+use Rattle.catalog.specs.Catalog.{Entry, knownType, kindOf, letter, validFile, live, entryFrom, entryAt, entriesOf, plainNames, lastPage, nextPage, soundPage, firstPage, pages}
+use Rattle.catalog.specs.Pages.{plainEntry, counts, countsOf, noPages, counted, walked, pagesCounted}
 use Rattle.catalog.specs.declared.Pages.{Pages}
 
 -- ---- a link
@@ -73,31 +73,56 @@ module _ (d : List ℕ) (i k : ℕ) where
 pub ruleset letters = (letters-none, letters-found, letters-more, letters-done, needs)
 
 -- ---- an entry
-module _ (e : Entry) (t : ℕ) (q : t ≡ e .list .track .0) where
-  pub plain-unused : t ≡ 0 → true ≡ plainEntry e
-  unfolding plainEntry live
-  plain-unused z = rw (eq-eqb _ _ (sym q ∙ z)) refl
+pub valid-unused : (t : ℕ) → t ≡ 0 → false ≡ validFile t
+unfolding validFile
+valid-unused t z = rw (eq-eqb _ _ z) refl
 
-  pub plain-deleted : (t ≡ 0 → ⊥) → t ≡ 255 → true ≡ plainEntry e
-  unfolding plainEntry live
-  plain-deleted h z = rw (ne-eqb _ _ (λ y. h (q ∙ y)), eq-eqb _ _ (sym q ∙ z)) refl
+pub valid-deleted : (t : ℕ) → (t ≡ 0 → ⊥) → t ≡ 255 → false ≡ validFile t
+unfolding validFile
+valid-deleted t h z = rw (ne-eqb _ _ h, eq-eqb _ _ z) refl
 
-  pub plain-live : (t ≡ 0 → ⊥) → (t ≡ 255 → ⊥) → (b : Bool) → b ≡ among 128 (e .raw) → not b ≡ plainEntry e
-  unfolding plainEntry live
-  plain-live h g b r = rw (ne-eqb _ _ (λ y. h (q ∙ y)), ne-eqb _ _ (λ y. g (q ∙ y)), r) refl
+pub valid-live : (t : ℕ) → (t ≡ 0 → ⊥) → (t ≡ 255 → ⊥) → true ≡ validFile t
+unfolding validFile
+valid-live t h g = rw (ne-eqb _ _ h, ne-eqb _ _ g) refl
 
--- the same, of entry i as code reads it
-module _ (n : ℕ) (d : List ℕ) (p : Place) (i t : ℕ) (q : t ≡ byteOf n d p (11 + 35 * i)) where
-  pub entry-unused : t ≡ 0 → true ≡ plainEntry (entryAt n d p i)
-  entry-unused = plain-unused (entryAt n d p i) t q
+-- a type
+module _ (c : ℕ) (b : Bool) (e : b ≡ knownType c) where
+  pub kind-known : b ≡ true → c ≡ kindOf c
+  unfolding kindOf
+  kind-known h = rw (← e, h) refl
 
-  pub entry-deleted : (t ≡ 0 → ⊥) → t ≡ 255 → true ≡ plainEntry (entryAt n d p i)
-  entry-deleted = plain-deleted (entryAt n d p i) t q
+  pub kind-other : b ≡ false → 41 ≡ kindOf c
+  unfolding kindOf
+  kind-other h = rw (← e, h) refl
 
-  pub entry-live : (t ≡ 0 → ⊥) → (t ≡ 255 → ⊥) → (b : Bool) (j : ℕ) → j ≡ start n p → b ≡ among 128 (take 30 (drop (j + (14 + 35 * i)) d)) → not b ≡ plainEntry (entryAt n d p i)
-  entry-live h g b j a r = plain-live (entryAt n d p i) t q h g b (rw a at r)
+-- a letter
+pub letter-high : (b : ℕ) → 128 < b → b - 128 ≡ letter b
+letter-high b h = rw (lt-ltb 128 b h) refl
 
-pub ruleset entries = (entry-unused, entry-deleted, entry-live, needs)
+pub letter-low : (b : ℕ) → b ≤ 128 → b ≡ letter b
+letter-low b h = rw (le-ltb 128 b h) refl
+
+-- the first page
+pub first-is : (n : ℕ) (d : List ℕ) (s : ℕ) → s ≡ byteOf n d vtoc 2 → place 17 s ≡ firstPage n d
+first-is n d s e = rw e refl
+
+-- an entry from x on, as code reads it: t is its track, and b whether it is live
+module _ (d : List ℕ) (x t : ℕ) (b : Bool) (e : t ≡ getD d x 0) (v : b ≡ validFile t) where
+  pub plain-live : b ≡ true → (w : Bool) → w ≡ among 128 (take 30 (drop (x + 3) d)) → not w ≡ plainEntry (entryFrom d x)
+  unfolding plainEntry
+  plain-live z w q = rw (← e, ← v, z, q) refl
+
+  pub plain-dead : b ≡ false → true ≡ plainEntry (entryFrom d x)
+  unfolding plainEntry
+  plain-dead z = rw (← e, ← v, z) refl
+
+  pub live-one : b ≡ true → _≡_ {A = ℕ} 1 (cond (live (entryFrom d x)) 1 0)
+  live-one z = rw (← e, ← v, z) refl
+
+  pub live-none : b ≡ false → _≡_ {A = ℕ} 0 (cond (live (entryFrom d x)) 1 0)
+  live-none z = rw (← e, ← v, z) refl
+
+pub ruleset entries = (valid-unused, valid-deleted, valid-live, plain-live, plain-dead, live-one, live-none, letter-high, letter-low, first-is, kind-known, kind-other, needs)
 
 -- ---- a page's entries
 module _ (n : ℕ) (d : List ℕ) (p : Place) where
@@ -119,11 +144,12 @@ module _ (n : ℕ) (d : List ℕ) (p : Place) where
         → plainNames (entriesOf n d p) ≡ (plainEntry (entryAt n d p i) && plainNames (filter live (onward (entryAt n d p) 7 (i + 1))))
     plain-turn h = c .is ∙ rw (onward-next (entryAt n d p) 7 i h) (plain-step (entryAt n d p i) (onward (entryAt n d p) 7 (i + 1)))
 
-    pub plain-bad : (b : Bool) → i < 7 → b ≡ plainEntry (entryAt n d p i) → b ≡ false → false ≡ plainNames (entriesOf n d p)
-    plain-bad b h e z = rw (plain-turn h, ← e, z) refl
+    pub plain-bad : (x : ℕ) (b : Bool) → i < 7 → x ≡ start n p + (11 + 35 * i) → b ≡ plainEntry (entryFrom d x) → b ≡ false
+        → false ≡ plainNames (entriesOf n d p)
+    plain-bad x b h q e z = rw (plain-turn h, ← q, ← e, z) refl
 
-    pub plain-more : (b : Bool) → i < 7 → b ≡ plainEntry (entryAt n d p i) → b ≡ true → Plain (i + 1)
-    plain-more b h e z = record { count = omega arith; is = plain-turn h ∙ rw (← e, z) refl }
+    pub plain-more : (x : ℕ) (b : Bool) → i < 7 → x ≡ start n p + (11 + 35 * i) → b ≡ plainEntry (entryFrom d x) → b ≡ true → Plain (i + 1)
+    plain-more x b h q e z = record { count = omega arith; is = plain-turn h ∙ rw (← q, ← e, z) refl }
 
     pub plain-done : 7 ≤ i → true ≡ plainNames (entriesOf n d p)
     unfolding filter all
@@ -131,81 +157,136 @@ module _ (n : ℕ) (d : List ℕ) (p : Place) where
 
 pub ruleset plains = (plain-none, plain-bad, plain-more, plain-done, not-true, not-false, needs)
 
+-- ---- how many of a page's entries are live
+module _ (n : ℕ) (d : List ℕ) (p : Place) where
+  -- i entries were looked at, and m of them are live
+  pub record Living (m i : ℕ) : Type 0 where
+    pub count : i ≤ 7
+    pub small : m ≤ i
+    pub is : length (entriesOf n d p) ≡ m + length (filter live (onward (entryAt n d p) 7 i))
+
+  pub living-none : Living 0 0
+  unfolding entriesOf
+  living-none = record { count = omega arith; small = omega arith; is = omega arith }
+
+  -- one entry more
+  living-step : (e : Entry) (es : List Entry) → length (filter live (e ∷ es)) ≡ cond (live e) 1 0 + length (filter live es)
+  unfolding filter
+  living-step e es = by-test (live e) (λ h. rw h (omega arith)) (λ h. rw h (omega arith))
+
+  pub living-more : (m i x r : ℕ) → Living m i → i < 7 → x ≡ start n p + (11 + 35 * i) → r ≡ cond (live (entryFrom d x)) 1 0 → r ≤ 1 → Living (m + r) (i + 1)
+  living-more m i x r c h q e l =
+      let k = onward-next (entryAt n d p) 7 i h in
+      let u : length (filter live (onward (entryAt n d p) 7 i)) ≡ r + length (filter live (onward (entryAt n d p) 7 (i + 1))) =
+      rw (k, living-step (entryAt n d p i) (onward (entryAt n d p) 7 (i + 1)), e, q) refl
+      in
+      record { count = omega arith; small = omega (arith, c .small); is = omega (arith, c .is, u) }
+
+  pub living-done : (m i : ℕ) → Living m i → 7 ≤ i → m ≡ length (entriesOf n d p)
+  unfolding filter
+  living-done m i c h =
+      let u : length (filter live (onward (entryAt n d p) 7 i)) ≡ 0 = rw (onward-end (entryAt n d p) 7 i h) refl in
+      omega (arith, c .is, u)
+
+  pub living-few : (m i : ℕ) → Living m i → m ≤ 7
+  living-few m i c = omega (arith, c .small, c .count)
+
+pub ruleset livings = (living-none, living-more, living-done, living-few, needs)
+
 -- ---- the pages
--- one page more
-abbrev pub more : ℕ → Place → ℕ
-more k p = k + 1
+module _ (n : ℕ) (d : List ℕ) where
+  -- one page more
+  abbrev pub more : Pages → Place → Pages
+  more c p = counts (c .count + 1) (c .entries + length (entriesOf n d p))
 
-made-length : (o : Outcome (List Place)) → made more 0 o ≡ (o >>= λ ps. given (length ps))
-made-length (refused r) = refl
-made-length (given ps) = ap given (count-is 0 ps ∙ omega arith)
+  -- all pages of a list
+  more-all : (k m : ℕ) (ps : List Place) → foldl more (counts k m) ps ≡ counts (k + length ps) (m + length (flatMap (entriesOf n d) ps))
+  unfolding flatMap
+  more-all k m [] = let a : k ≡ k + 0 = omega arith in let b : m ≡ m + 0 = omega arith in λ i. counts (a i) (b i)
+  more-all k m (p ∷ ps) =
+      let es : List Entry = entriesOf n d p in
+      let a : k + 1 + length ps ≡ k + suc (length ps) = omega arith in
+      let b : m + length es + length (flatMap (entriesOf n d) ps) ≡ m + length (es ++ flatMap (entriesOf n d) ps) = rw length-append (omega arith) in
+      more-all (k + 1) (m + length es) ps ∙ λ i. counts (a i) (b i)
 
-module _ (n : ℕ) (d : List ℕ) (first : Place) where
-  -- k pages were read, and p is the next
-  pub record Walking (most k : ℕ) (p : Place) : Type 0 where
-    pub budget : most ≡ 35 * n + 1
-    pub count : k ≤ most
-    pub is : rest more n (soundPage n d) (nextPage n d) (35 * n + 1) k k p ≡ walked n d first
+  made-counts : (o : Outcome (List Place)) → made more (counts 0 0) o ≡ (o >>= λ ps. given (countsOf n d ps))
+  made-counts (refused r) = refl
+  made-counts (given ps) = ap given (more-all 0 0 ps ∙ λ i. counts (zero-add (length ps) i) (zero-add (length (flatMap (entriesOf n d) ps)) i))
 
-  pub walk-none : (most : ℕ) → most ≡ 35 * n + 1 → Walking most 0 first
-  unfolding walked
-  walk-none most e =
-      record { budget = e; count = omega arith; is = rest-start more n (soundPage n d) (nextPage n d) (35 * n + 1) 0 first ∙ made-length (walk n (soundPage n d) (nextPage n d) (35 * n + 1) [] first) }
+  module _ (first : Place) where
+    -- k pages with m entries were read, and p is the next
+    pub record Walking (most k m : ℕ) (p : Place) : Type 0 where
+      pub budget : most ≡ 35 * n + 1
+      pub count : k ≤ most
+      pub small : m ≤ 7 * k
+      pub is : rest more n (soundPage n d) (nextPage n d) (35 * n + 1) k (counts k m) p ≡ walked n d first
 
-  module _ (most k : ℕ) (p : Place) (c : Walking most k p) where
-    pub walk-ring : most ≤ k → record { refusal = 4; count = 0 } ≡ counted (walked n d first)
-    walk-ring h = rw (← c .is, rest-full more n (soundPage n d) (nextPage n d) (35 * n + 1) k k p (omega (arith, c .budget))) refl
+    pub walk-none : (most : ℕ) → most ≡ 35 * n + 1 → Walking most 0 0 first
+    unfolding walked
+    walk-none most e =
+        record {
+          budget = e;
+          count = omega arith;
+          small = omega arith;
+          is = rest-start more n (soundPage n d) (nextPage n d) (35 * n + 1) (counts 0 0) first ∙ made-counts (walk n (soundPage n d) (nextPage n d) (35 * n + 1) [] first);
+        }
 
-    module _ (h : k < most) (on : Bool) (o : on ≡ onDisk n p) where
-      inside : k < 35 * n + 1
-      inside = omega (arith, c .budget)
+    module _ (most k m : ℕ) (p : Place) (c : Walking most k m p) (v : Pages) where
+      pub walk-ring : most ≤ k → v ≡ noPages 4 → v ≡ counted (walked n d first)
+      walk-ring h e = e ∙ rw (← c .is, rest-full more n (soundPage n d) (nextPage n d) (35 * n + 1) k (counts k m) p (omega (arith, c .budget))) refl
 
-      pub walk-off : on ≡ false → record { refusal = 3; count = 0 } ≡ counted (walked n d first)
-      walk-off z = rw (← c .is, rest-off more n (soundPage n d) (nextPage n d) (35 * n + 1) k k p inside (sym o ∙ z)) refl
+      module _ (h : k < most) (on : Bool) (o : on ≡ onDisk n p) where
+        inside : k < 35 * n + 1
+        inside = omega (arith, c .budget)
 
-      module _ (y : on ≡ true) (b : Bool) (s : b ≡ plainNames (entriesOf n d p)) where
-        pub walk-bad : b ≡ false → record { refusal = 6; count = 0 } ≡ counted (walked n d first)
-        unfolding soundPage
-        walk-bad z =
-            rw (← c .is, rest-bad more n (soundPage n d) (nextPage n d) (35 * n + 1) k k p inside BadLetter (sym o ∙ y) (rw (← s, z) refl)) refl
+        pub walk-off : on ≡ false → v ≡ noPages 3 → v ≡ counted (walked n d first)
+        walk-off z e = e ∙ rw (← c .is, rest-off more n (soundPage n d) (nextPage n d) (35 * n + 1) k (counts k m) p inside (sym o ∙ z)) refl
 
-        module _ (z : b ≡ true) (l : Bool) (e : l ≡ lastPage n d p) where
-          sound : soundPage n d p ≡ given tt
+        module _ (y : on ≡ true) (b : Bool) (s : b ≡ plainNames (entriesOf n d p)) where
+          pub walk-bad : b ≡ false → v ≡ noPages 6 → v ≡ counted (walked n d first)
           unfolding soundPage
-          sound = rw (← s, z) refl
+          walk-bad z e =
+              e ∙ rw (← c .is, rest-bad more n (soundPage n d) (nextPage n d) (35 * n + 1) k (counts k m) p inside BadLetter (sym o ∙ y) (rw (← s, z) refl)) refl
 
-          pub walk-last : l ≡ true → record { refusal = 0; count = k + 1 } ≡ counted (walked n d first)
-          unfolding nextPage
-          walk-last t =
-              rw (← c .is, rest-end more n (soundPage n d) (nextPage n d) (35 * n + 1) k k p inside (sym o ∙ y, sound) (rw (← e, t) refl)) refl
+    module _ (most k m : ℕ) (p : Place) (c : Walking most k m p) (h : k < most) (on : Bool) (o : on ≡ onDisk n p) (y : on ≡ true)
+        (b : Bool) (s : b ≡ plainNames (entriesOf n d p)) (z : b ≡ true) (r : ℕ) (q : r ≡ length (entriesOf n d p)) (few : r ≤ 7) (l : Bool) (e : l ≡ lastPage n d p) where
+      sound : soundPage n d p ≡ given tt
+      unfolding soundPage
+      sound = rw (← s, z) refl
 
-          pub walk-more : l ≡ false → (q : Place) → q ≡ place (byteOf n d p 1) (byteOf n d p 2) → Walking most (k + 1) q
-          unfolding nextPage
-          walk-more t q a =
-              record {
-                budget = c .budget;
-                count = omega arith;
-                is =
-                    sym (rest-more more n (soundPage n d) (nextPage n d) (35 * n + 1) k k p inside q (sym o ∙ y, sound, rw (← e, t, a) refl))
-                    ∙ c .is;
-              }
+      pub walk-last : l ≡ true → counts (k + 1) (m + r) ≡ counted (walked n d first)
+      unfolding nextPage
+      walk-last t =
+          rw (← c .is, rest-end more n (soundPage n d) (nextPage n d) (35 * n + 1) k (counts k m) p (omega (arith, c .budget)) (sym o ∙ y, sound) (rw (← e, t) refl), q) refl
+
+      pub walk-more : l ≡ false → (a : Place) → a ≡ place (byteOf n d p 1) (byteOf n d p 2) → Walking most (k + 1) (m + r) a
+      unfolding nextPage
+      walk-more t a w =
+          record {
+            budget = c .budget;
+            count = omega arith;
+            small = omega (arith, c .small);
+            is =
+                rw q
+                (sym (rest-more more n (soundPage n d) (nextPage n d) (35 * n + 1) k (counts k m) p (omega (arith, c .budget)) a (sym o ∙ y, sound, rw (← e, t, w) refl))
+                ∙ c .is);
+          }
 
 pub ruleset walks = (walk-none, walk-ring, walk-off, walk-bad, walk-last, walk-more, not-true, not-false, needs)
 
 -- ---- the catalog
-module _ (d : List ℕ) (k : ℕ) (e : k ≡ number (readable 16 d)) where
-  pub pages-refused : (k ≡ 0 → ⊥) → record { refusal = k; count = 0 } ≡ counted (pagesCounted 16 d)
+module _ (d : List ℕ) (k : ℕ) (e : k ≡ number (readable 16 d)) (v : Pages) where
+  pub pages-refused : (k ≡ 0 → ⊥) → v ≡ noPages k → v ≡ counted (pagesCounted 16 d)
   unfolding pagesCounted pages
-  pages-refused h = go (readable 16 d) e
+  pages-refused h w = w ∙ go (readable 16 d) e
     where
       go : (o : Outcome (Unit {0})) → k ≡ number o
-          → record { refusal = k; count = 0 }
-          ≡ counted ((o >> walk 16 (soundPage 16 d) (nextPage 16 d) (sectors 16 + 1) [] (firstPage 16 d)) >>= λ ps. given (length ps))
+          → noPages k ≡ counted ((o >> walk 16 (soundPage 16 d) (nextPage 16 d) (sectors 16 + 1) [] (firstPage 16 d)) >>= λ ps. given (countsOf 16 d ps))
       go (refused r) q = rw q refl
       go (given u) q = absurd (h q)
 
-  pub pages-walked : k ≡ 0 → (s : ℕ) (v : Pages) → s ≡ byteOf 16 d vtoc 2 → v ≡ counted (walked 16 d (place 17 s)) → v ≡ counted (pagesCounted 16 d)
+  pub pages-walked : k ≡ 0 → (p : Place) → p ≡ firstPage 16 d → v ≡ counted (walked 16 d p) → v ≡ counted (pagesCounted 16 d)
   unfolding pagesCounted pages walked
-  pages-walked z s v a w = let o = number-0 (readable 16 d) (sym e ∙ z) in rw (pagesCounted, o .1, ← a) w
+  pages-walked z p a w = let o = number-0 (readable 16 d) (sym e ∙ z) in w ∙ rw (a, pagesCounted, o .1) refl
 
 pub ruleset catalogs = (pages-refused, pages-walked, needs)

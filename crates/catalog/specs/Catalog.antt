@@ -3,14 +3,15 @@ use mathlib.Core.Bool.{Bool, true, false, cond, not, _&&_, _||_}
 use mathlib.Core.List.{List, [], _∷_, map, flatMap}
 use mathlib.Core.Option.{Option, none, some}
 use Prim.Native.Nat.{ℕ, _+_, _*_, _-_, _/_, _%_}
-use lib.ListN.{take, drop}
+use lib.ListN.{getD, take, drop}
 use lib.Dec.{ltb, eqb}
 use Rattle.lists.specs.Fill.{below}
 use Rattle.lists.specs.Select.{all, filter, among}
+use Rattle.lists.specs.Words.{wordAt}
 use Rattle.outcome.specs.declared.Refusal.the-variants.{BadLetter}
 use Rattle.outcome.specs.Outcome.{Outcome, given, _>>=_, _>>_, require}
 use Rattle.disk.specs.declared.Place.{Place}
-use Rattle.disk.specs.Disk.{place, byteOf, wordOf, start, sectors}
+use Rattle.disk.specs.Disk.{place, byteOf, start, sectors}
 use Rattle.disk.specs.Vtoc.{vtoc, readable}
 use Rattle.disk.specs.Chain.{walk}
 
@@ -22,10 +23,13 @@ pub record Entry : Type 0 where
   pub raw : List ℕ
   pub count : ℕ
 
--- the type of a code: the Rust's eight, and 41, Unknown, for any other
+-- the Rust's eight codes
+abbrev pub knownType : ℕ → Bool
+knownType c = eqb c 0 || (eqb c 1 || (eqb c 2 || (eqb c 4 || (eqb c 8 || (eqb c 10 || (eqb c 20 || eqb c 40))))))
+
+-- the type of a code: any other is 41, Unknown
 unfoldable pub kindOf : ℕ → ℕ
-kindOf c =
-    cond (eqb c 0 || (eqb c 1 || (eqb c 2 || (eqb c 4 || (eqb c 8 || (eqb c 10 || (eqb c 20 || eqb c 40))))))) c 41
+kindOf c = cond (knownType c) c 41
 
 -- the list has no element
 abbrev pub isNil : List ℕ → Bool
@@ -37,29 +41,41 @@ unfoldable pub trimmed : List ℕ → List ℕ
 trimmed [] = []
 trimmed (b ∷ bs) = let r = trimmed bs in cond (eqb b 32 && isNil r) [] (b ∷ r)
 
--- the name as it is shown: bytes above 80h lose 80h, then the spaces at the end go
-unfoldable pub shown : List ℕ → List ℕ
-shown raw = trimmed (map (λ b. cond (ltb 128 b) (b - 128) b) raw)
+-- a name byte as it is shown: above 80h it loses 80h
+abbrev pub letter : ℕ → ℕ
+letter b = cond (ltb 128 b) (b - 128) b
 
--- an entry whose list track is 0 or FFh is skipped
-unfoldable pub live : Entry → Bool
-live e = not (eqb (e .list .track .0) 0 || eqb (e .list .track .0) 255)
+-- the name as it is shown
+unfoldable pub shown : List ℕ → List ℕ
+shown raw = trimmed (map letter raw)
+
+-- a list track that an entry in use has: 0 and FFh are skipped
+unfoldable pub validFile : ℕ → Bool
+validFile t = not (eqb t 0 || eqb t 255)
+
+-- an entry in use
+abbrev pub live : Entry → Bool
+live e = validFile (e .list .track .0)
 
 -- no name of these entries holds 80h
 abbrev pub plainNames : List Entry → Bool
 plainNames = all (λ (e : Entry). not (among 128 (e .raw)))
 
+-- the entry in the 35 bytes of d from x on
+abbrev pub entryFrom : List ℕ → ℕ → Entry
+entryFrom d x =
+    record {
+      list = place (getD d x 0) (getD d (x + 1) 0);
+      kind = kindOf (getD d (x + 2) 0 % 128);
+      locked = getD d (x + 2) 0 / 128;
+      raw = take 30 (drop (x + 3) d);
+      count = wordAt d (x + 33);
+    }
+
 module _ (n : ℕ) (d : List ℕ) where
   -- entry i of a page, i from 0 to 6
   abbrev pub entryAt : Place → ℕ → Entry
-  entryAt p i =
-      record {
-        list = place (byteOf n d p (11 + 35 * i)) (byteOf n d p (12 + 35 * i));
-        kind = kindOf (byteOf n d p (13 + 35 * i) % 128);
-        locked = byteOf n d p (13 + 35 * i) / 128;
-        raw = take 30 (drop (start n p + (14 + 35 * i)) d);
-        count = wordOf n d p (44 + 35 * i);
-      }
+  entryAt p i = entryFrom d (start n p + (11 + 35 * i))
 
   -- the live ones of a page's seven
   unfoldable pub entriesOf : Place → List Entry

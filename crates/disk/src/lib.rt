@@ -5,7 +5,7 @@ ghost use mathlib.Core.Bool.{cond};
 ghost use lib.Count.{ones};
 ghost use lib.ListN.{length};
 ghost use Rattle.outcome.specs.Outcome.{number};
-ghost use Rattle.disk.specs.Disk.{place, start, byteOf, onDisk};
+ghost use Rattle.disk.specs.Disk.{place, sectors, start, byteOf, onDisk};
 ghost use Rattle.disk.specs.Vtoc.{vtoc, readable, freeIn, freeBelow, percent, oneOf, validTable, signed, blank, tableOf, parsed};
 ghost use Rattle.disk.specs.Window.{sectorIn, windowed, part};
 use outcome::NO_TABLE;
@@ -226,6 +226,13 @@ pub fn on_disk(per: u8, p: Place) -> bool
         return p.sector.0 < per;
     }
     false
+}
+
+// The turns that a walk along a chain of sectors has, no sector being marked: one more than there are sectors. They run out in a ring alone.
+pub fn chain_budget(per: u8) -> u16
+    ensures { λ r. ⌜ r ≡ sectors per + 1 ⌝ }
+{
+    35 * (per as u16) + 1
 }
 
 // One of two slices.

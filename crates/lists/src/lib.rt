@@ -1,7 +1,7 @@
 // Bytes in slices: total reads, copies into lent space, comparison, and numbers of two bytes. Not of the Rust, which has its iterators for them.
 ghost use mathlib.Core.Path.{_≡_};
 ghost use Prim.Native.Nat.{_+_, _≤_};
-ghost use lib.ListN.{length, getD, replicate};
+ghost use lib.ListN.{length, getD, take, drop, replicate};
 ghost use Rattle.lists.specs.Fill.{put, placed};
 ghost use Rattle.lists.specs.Same.{same, unlikeOf};
 ghost use Rattle.lists.specs.Words.{wordAt, le2};
@@ -26,6 +26,20 @@ pub fn word_at(s: &[u8], i: usize) -> u16
         return low + 256 * high;
     }
     0
+}
+
+// The n elements from a on, as far as there are any.
+pub fn part(s: &[u8], a: usize, n: usize) -> &[u8]
+    ensures { λ r. ⌜ now r ≡ take n (drop a (now (s .entry))) ⌝ }
+{
+    if s.len() <= a {
+        return &s[0..0];
+    }
+    let end = s.len();
+    if end - a < n {
+        return &s[a..end];
+    }
+    &s[a..a + n]
 }
 
 // Puts all of src into dst from place at.
