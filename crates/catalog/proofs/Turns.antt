@@ -19,7 +19,7 @@ use Rattle.outcome.proofs.Outcome.{number-0}
 use Rattle.disk.specs.declared.Place.{Place}
 use Rattle.disk.specs.Vtoc.{readable}
 use Rattle.disk.specs.Vtoc.{vtoc}
-use Rattle.disk.specs.Disk.{place, byteOf, start, onDisk, sectors}
+use Rattle.disk.specs.Disk.{place, linkOf, byteOf, start, onDisk, sectors}
 use Rattle.disk.specs.Chain.{walk}
 use Rattle.disk.proofs.Steps.{made, rest, rest-start, rest-full, rest-off, rest-bad, rest-end, rest-more}
 use Rattle.catalog.specs.Catalog.{Entry, knownType, kindOf, letter, validFile, live, entryFrom, entryAt, entriesOf, plainNames, lastPage, nextPage, soundPage, firstPage, pages}
@@ -259,7 +259,7 @@ module _ (n : ℕ) (d : List ℕ) where
       walk-last t =
           rw (← c .is, rest-end more n (soundPage n d) (nextPage n d) (35 * n + 1) k (counts k m) p (omega (arith, c .budget)) (sym o ∙ y, sound) (rw (← e, t) refl), q) refl
 
-      pub walk-more : l ≡ false → (a : Place) → a ≡ place (byteOf n d p 1) (byteOf n d p 2) → Walking most (k + 1) (m + r) a
+      pub walk-more : l ≡ false → (a : Place) → a ≡ linkOf n d p → Walking most (k + 1) (m + r) a
       unfolding nextPage
       walk-more t a w =
           record {

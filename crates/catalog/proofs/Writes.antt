@@ -15,7 +15,7 @@ use Rattle.lists.proofs.Put.{Put, put-none, put-more, put-front, put-whole, pla
 use Rattle.lists.proofs.Cat.{Catting, cat-none, cat-turn, cat-fits, cat-done}
 use Rattle.lists.proofs.Split.{by-test}
 use Rattle.disk.specs.declared.Place.{Place}
-use Rattle.disk.specs.Disk.{place, start, byteOf}
+use Rattle.disk.specs.Disk.{start, linkOf}
 use Rattle.disk.specs.Chain.{walk}
 use Rattle.disk.proofs.Steps.{made, rest, joins, joined-is, rest-start, rest-within, rest-last, rest-on, rest-room}
 use Rattle.outcome.specs.Outcome.{Outcome, refused, given, _>>=_, leftBy}
@@ -194,7 +194,7 @@ module _ (n : ℕ) (d : List ℕ) where
             rest-last joinPages n (soundPage n d) (nextPage n d) (35 * n + 1) k (c .done) p (c .whole) (c .is) (rw (← e, t) refl) in
             rw (c .total, q) (put-front more)
 
-        pub list-more : l ≡ false → (a : Place) → a ≡ place (byteOf n d p 1) (byteOf n d p 2) → k < most
+        pub list-more : l ≡ false → (a : Place) → a ≡ linkOf n d p → k < most
             → Listed most (k + 1) (w + r) a o₀ (putMid w (length o - w) o y)
         unfolding nextPage
         list-more t a z h =

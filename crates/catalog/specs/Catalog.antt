@@ -11,7 +11,7 @@ use Rattle.lists.specs.Words.{wordAt}
 use Rattle.outcome.specs.declared.Refusal.the-variants.{BadLetter}
 use Rattle.outcome.specs.Outcome.{Outcome, given, _>>=_, _>>_, require}
 use Rattle.disk.specs.declared.Place.{Place}
-use Rattle.disk.specs.Disk.{place, byteOf, start, sectors}
+use Rattle.disk.specs.Disk.{place, byteOf, linkOf, start, sectors}
 use Rattle.disk.specs.Vtoc.{vtoc, readable}
 use Rattle.disk.specs.Chain.{walk}
 
@@ -91,7 +91,7 @@ module _ (n : ℕ) (d : List ℕ) where
 
   -- the link of a page
   unfoldable pub nextPage : Place → Option Place
-  nextPage p = cond (lastPage p) none (some (place (byteOf n d p 1) (byteOf n d p 2)))
+  nextPage p = cond (lastPage p) none (some (linkOf n d p))
 
   -- the first page: on track 17 whatever VTOC byte 1 holds
   abbrev pub firstPage : Place

@@ -5,7 +5,7 @@ ghost use Prim.Native.Nat.{ℕ, _+_, _*_, _<_, _≤_};
 ghost use lib.ListN.{length, take, drop};
 ghost use Rattle.lists.specs.Select.{among};
 ghost use Rattle.outcome.specs.Outcome.{leftBy};
-ghost use Rattle.disk.specs.Disk.{place, byteOf, start};
+ghost use Rattle.disk.specs.Disk.{start};
 ghost use Rattle.catalog.specs.Catalog.{knownType, kindOf, letter, validFile, live, entryFrom, entriesOf, plainNames, lastPage, firstPage};
 ghost use Rattle.catalog.specs.Pages.{plainEntry, noPages, counted, walked, pagesCounted};
 ghost use Rattle.catalog.specs.Listing.{ShownIs, nameOf, fileEntry, blankEntry, bytes37, liveBytes, pageBytes, Wrote, Fronts, Ready, walkListed, noListing, Catalogued};
@@ -14,6 +14,7 @@ use disk::Sector;
 use disk::Track;
 use disk::byte_of;
 use disk::chain_budget;
+use disk::link_of;
 use disk::on_disk;
 use disk::sector_start;
 use disk::table_refusal;
@@ -181,18 +182,6 @@ fn last_page(disk: &[u8], per: u8, p: Place) -> bool
     byte_of(disk, per, p, 2) == 0
 }
 
-// Where a page's link leads.
-fn next_place(disk: &[u8], per: u8, p: Place) -> Place
-    ensures { λ r. ⌜ r ≡ place (byteOf per (now (disk .entry)) p 1) (byteOf per (now (disk .entry)) p 2) ⌝ }
-{
-    let t = byte_of(disk, per, p, 1);
-    let s = byte_of(disk, per, p, 2);
-    Place {
-        track: Track(t),
-        sector: Sector(s),
-    }
-}
-
 // A refusal: no pages, no entries.
 fn no_pages(number: u8) -> Pages
     ensures { λ r. ⌜ r ≡ noPages number ⌝ }
@@ -231,7 +220,7 @@ fn count_from(disk: &[u8], per: u8, first: Place) -> Pages
                 entries: m,
             };
         }
-        p = next_place(disk, per, p);
+        p = link_of(disk, per, p);
     }
 }
 
@@ -405,7 +394,7 @@ fn write_pages(disk: &[u8], per: u8, first: Place, out: &mut [u8])
         if last_page(disk, per, p) {
             return;
         }
-        p = next_place(disk, per, p);
+        p = link_of(disk, per, p);
         k += 1;
     }
 }

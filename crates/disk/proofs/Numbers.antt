@@ -17,7 +17,7 @@ use borrow.Author.Tests.{lt-ltb, le-ltb, eq-eqb, ne-eqb}
 use borrow.Author.Needs.{needs}
 use Rattle.disk.specs.declared.Place.{Place}
 use Rattle.disk.specs.Vtoc.{readable, tabled, percent, freeBelow, oneOf, validTable, vtoc, signed, freeIn, blank, tableOf, parsed}
-use Rattle.disk.specs.Disk.{start, byteOf}
+use Rattle.disk.specs.Disk.{place, start, byteOf, linkOf}
 use Rattle.disk.specs.declared.VolumeTableOfContents.{VolumeTableOfContents}
 use Rattle.outcome.specs.Refusal.{code}
 use Rattle.outcome.specs.Outcome.{Outcome, refused, given, number}
@@ -43,6 +43,12 @@ signed-high b l h =
 -- a sector's byte, read where the sector begins
 pub byte-read : (d : List ℕ) (n i k r : ℕ) (p : Place) → i ≡ start n p → r ≡ getD d (i + k) 0 → r ≡ byteOf n d p k
 byte-read d n i k r p e h = rw e at h
+
+-- a link that was read
+pub link-read : (d : List ℕ) (n t s : ℕ) (p : Place) → t ≡ byteOf n d p 1 → s ≡ byteOf n d p 2 → place t s ≡ linkOf n d p
+link-read d n t s p a b = rw (a, b) refl
+
+pub ruleset bytes = (byte-read, link-read, needs)
 
 -- no more than 16 of two bytes' bits are set
 pub ones-small : (low high : ℕ) → low < 256 → high < 256 → ones (low + 256 * high) ≤ 16

@@ -5,7 +5,7 @@ ghost use mathlib.Core.Bool.{cond};
 ghost use lib.Count.{ones};
 ghost use lib.ListN.{length};
 ghost use Rattle.outcome.specs.Outcome.{number};
-ghost use Rattle.disk.specs.Disk.{place, sectors, start, byteOf, onDisk};
+ghost use Rattle.disk.specs.Disk.{place, sectors, start, byteOf, linkOf, onDisk};
 ghost use Rattle.disk.specs.Vtoc.{vtoc, readable, freeIn, freeBelow, percent, oneOf, validTable, signed, blank, tableOf, parsed};
 ghost use Rattle.disk.specs.Window.{sectorIn, windowed, part};
 use outcome::NO_TABLE;
@@ -53,6 +53,18 @@ pub fn byte_of(disk: &[u8], per: u8, p: Place, k: u16) -> u8
     ensures { λ r. ⌜ r ≡ byteOf per (now (disk .entry)) p k ⌝ }
 {
     lists::byte_at(disk, sector_start(per, p) + k as usize)
+}
+
+// Where the link of a page or of a list leads: bytes 1 and 2 of its sector.
+pub fn link_of(disk: &[u8], per: u8, p: Place) -> Place
+    ensures { λ r. ⌜ r ≡ linkOf per (now (disk .entry)) p ⌝ }
+{
+    let t = byte_of(disk, per, p, 1);
+    let s = byte_of(disk, per, p, 2);
+    Place {
+        track: Track(t),
+        sector: Sector(s),
+    }
 }
 
 // Byte k of the volume table of contents, which stands on track 17, sector 0.

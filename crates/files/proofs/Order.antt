@@ -21,25 +21,25 @@ use Rattle.disk.proofs.Chain.{walk-short, RingFrom, ring-is-there}
 use Rattle.disk.proofs.Places.{readable-refused, off-size, no-table}
 use Rattle.catalog.specs.Catalog.{Entry, catalog, shown}
 use Rattle.catalog.proofs.Order.{pageWalk, pages-refused, catalog-refused, table-refuses, page-refuses}
-use Rattle.files.specs.Contents.{File, Contents, bytesIn, maxPairs, soundList, nextList, lists, isPair, pairAt, pairsOf, fileOf, contents}
+use Rattle.files.specs.Contents.{File, Contents, bytesIn, maxPairs, wholeLink, soundList, nextList, listWalk, lists, isPair, pairAt, pairsOf, fileOf, contents}
 
 module _ (n : ℕ) (d : List ℕ) where
   -- ---- one file's lists
 
   -- a ring of lists that is answered is there
   pub lists-ring : (e : Entry) → lists n d e ≡ refused Ring → RingFrom n (soundList n d) (nextList n d) (e .list)
-  unfolding lists soundList
+  unfolding listWalk soundList
   lists-ring e h =
       ring-is-there n _ _ _
       (λ p k.
-      let w = not-required (eqb (byteOf n d p 1) 0 || not (eqb (byteOf n d p 2) 0)) CutLink Ring k .1 in
+      let w = not-required (wholeLink n d p) CutLink Ring k .1 in
       let z : _≡_ {A = ℕ} 0 1 = cc in
       omega arith)
       h
 
   -- no more lists than sectors
   pub lists-short : (e : Entry) (ls : List Place) → lists n d e ≡ given ls → length ls ≤ sectors n
-  unfolding lists
+  unfolding listWalk
   lists-short e ls h = walk-short n _ _ _ _ ls h
 
   -- at most 121 pairs a list

@@ -13,7 +13,7 @@ use Rattle.lists.specs.Words.{wordAt}
 use Rattle.outcome.specs.declared.Refusal.the-variants.{OffDisc, CutLink}
 use Rattle.outcome.specs.Outcome.{Outcome, given, _>>=_, _>>_, require, each}
 use Rattle.disk.specs.declared.Place.{Place}
-use Rattle.disk.specs.Disk.{place, byteOf, bytesOf, onDisk, sectors, sized}
+use Rattle.disk.specs.Disk.{place, byteOf, linkOf, bytesOf, onDisk, sectors, sized}
 use Rattle.disk.specs.Vtoc.{vtoc}
 use Rattle.disk.specs.Chain.{walk}
 use Rattle.catalog.specs.Catalog.{Entry, catalog, shown, trimmed, kindOf}
@@ -59,15 +59,23 @@ bytesIn kind s =
 module _ (n : ℕ) (d : List ℕ) where
   -- the link of a list: track 0 ends the chain
   unfoldable pub nextList : Place → Option Place
-  nextList p = cond (eqb (byteOf n d p 1) 0) none (some (place (byteOf n d p 1) (byteOf n d p 2)))
+  nextList p = cond (eqb (byteOf n d p 1) 0) none (some (linkOf n d p))
+
+  -- the link of a list ends the chain, or has a sector
+  unfoldable pub wholeLink : Place → Bool
+  wholeLink p = eqb (byteOf n d p 1) 0 || not (eqb (byteOf n d p 2) 0)
 
   -- a list's own test: 5 where its link has a track and no sector
   unfoldable pub soundList : Place → Outcome (Unit {0})
-  soundList p = require (eqb (byteOf n d p 1) 0 || not (eqb (byteOf n d p 2) 0)) CutLink
+  soundList p = require (wholeLink p) CutLink
 
-  -- the track/sector lists of an entry (01: thread): at each link 5, 3, 4
-  unfoldable pub lists : Entry → Outcome (List Place)
-  lists e = walk n soundList nextList (sectors n + 1) [] (e .list)
+  -- the track/sector lists from p on: at each link 5, 3, 4
+  unfoldable pub listWalk : Place → Outcome (List Place)
+  listWalk p = walk n soundList nextList (sectors n + 1) [] p
+
+  -- those of an entry (01: thread)
+  abbrev pub lists : Entry → Outcome (List Place)
+  lists e = listWalk (e .list)
 
   -- pair i of a list
   abbrev pub pairAt : Place → ℕ → Place

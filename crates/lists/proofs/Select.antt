@@ -1,6 +1,6 @@
 -- Tests over a list, and the parts of it that pass one. Assumes nothing.
 use mathlib.Core.Path.{_≡_, refl, _∙_}
-use mathlib.Core.Bool.{Bool, true}
+use mathlib.Core.Bool.{Bool, true, false}
 use mathlib.Core.List.{List, [], _∷_, map}
 use Prim.Native.Nat.{ℕ, zero, suc, _+_, _<_, _≤_}
 use native.Mathlib.Numerals.{add-one}
@@ -41,6 +41,15 @@ module _ {A : Type 0} (test : A → Bool) where
   takeWhile-short [] = omega arith
   takeWhile-short (x ∷ xs) =
       let i = takeWhile-short xs in by-test (test x) (λ e. rw e (omega arith)) (λ e. rw e (omega arith))
+
+  -- one element more, or the end
+  pub takeWhile-next : (x : A) (xs : List A) → test x ≡ true → takeWhile test (x ∷ xs) ≡ x ∷ takeWhile test xs
+  unfolding takeWhile
+  takeWhile-next x xs e = rw e refl
+
+  pub takeWhile-stop : (x : A) (xs : List A) → test x ≡ false → takeWhile test (x ∷ xs) ≡ []
+  unfolding takeWhile
+  takeWhile-stop x xs e = rw e refl
 
 -- what holds of each element of the list holds of each that is kept
 pub filter-every : {A : Type 0} {P : A → Type 0} (test : A → Bool) {xs : List A} → Every P xs → Every P (filter test xs)

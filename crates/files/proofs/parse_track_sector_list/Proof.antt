@@ -1,0 +1,26 @@
+use Rattle.files.proofs.Runs.{Pairing, pairings, pairing-more}
+use Prim.Native.Nat.{_-_}
+use Rattle.files.proofs.parse_track_sector_list.Statement.{statement}
+use Rattle.files.proofs.parse_track_sector_list.Tie as tie
+
+abbrev Inv-loop : tie.InvT-loop
+Inv-loop disk per p i₀ good₀ i good = Pairing per disk p i good
+
+abbrev μ-loop : tie.MeasureT-loop
+μ-loop disk per p i₀ good₀ i good = 121 - i
+
+pub parse-track-sector-list-spec : {M : Type 1} → statement M
+parse-track-sector-list-spec =
+    tie.close
+    (tie.spec
+    Inv-loop
+    μ-loop
+    (λ c. search pairings)  -- loop-holds
+    (λ c κs. search pairings)  -- parse-track-sector-pair-requires
+    (λ c. search pairings)  -- returns
+    (λ c κs. search pairings)  -- on-disk-requires
+    (λ c. search pairings)  -- add-i
+    (λ c. search pairings)  -- loop-less
+    (λ c. pairing-more _ _ _ _ _ (c .before .before .before .before .before .loop .inv) (c .before .before .before .before .loop-test .taken) _ (c .before .before .before .parse-track-sector-pair .ensures) (c .before .if1 .left) _ (c .on-disk .ensures))  -- loop-again
+    (λ c. search pairings)  -- returns-2
+    )
