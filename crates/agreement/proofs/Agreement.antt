@@ -15,7 +15,8 @@ use Rattle.files.specs.Contents.{Contents, Proper, contents}
 use Rattle.files.proofs.Proper.{all-proper}
 use Rattle.stream.specs.Stream.{image}
 use Rattle.stream.proofs.Sizes.{sized-image}
-use Rattle.archive.specs.Archive.{blocks, archive, archiveOf, check}
+use Rattle.files.specs.Survey.{blocks}
+use Rattle.archive.specs.Archive.{archive, archiveOf, check}
 use Rattle.archive.proofs.Blocks.{length-archive}
 use Rattle.archive.proofs.Archive.{archive-injective, writes-archive, check-passes}
 use Rattle.agreement.specs.Agreement.{Disk, flat, nibbles, OfBytes, contentsOf, EqualContents, ImageOf, Agreement}

@@ -15,7 +15,8 @@ use Rattle.catalog.specs.Catalog.{shown, trimmed}
 use Rattle.files.specs.Contents.{File, bytesIn}
 use Rattle.nibble.proofs.Starred
 use Rattle.stream.specs.Stream.{interleave}
-use Rattle.archive.specs.Archive.{blocks, blocksIn, archive, firstBlock, entryChain}
+use Rattle.files.specs.Survey.{blocks, blocksIn}
+use Rattle.archive.specs.Archive.{archive, firstBlock, entryChain}
 use Rattle.agreement.specs.Starred.{Starred as Cases}
 
 -- a place that is off the disk

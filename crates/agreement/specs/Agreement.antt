@@ -10,7 +10,8 @@ use Rattle.lists.specs.Fill.{Bytes}
 use Rattle.outcome.specs.declared.Handed.{Handed}
 use Rattle.outcome.specs.Outcome.{Outcome, given, _>>=_, number, Hands}
 use Rattle.files.specs.Contents.{Contents, contents}
-use Rattle.archive.specs.Archive.{blocks, archiveOf, check}
+use Rattle.files.specs.Survey.{blocks}
+use Rattle.archive.specs.Archive.{archiveOf, check}
 use Rattle.stream.specs.Stream.{image}
 
 -- a disk as it arrives: flat, or as nibbles

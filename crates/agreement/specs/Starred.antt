@@ -13,7 +13,8 @@ use Rattle.catalog.specs.Catalog.{shown}
 use Rattle.files.specs.Contents.{File, bytesIn}
 use Rattle.nibble.specs.Nibble.{encode}
 use Rattle.stream.specs.Stream.{of44, interleave}
-use Rattle.archive.specs.Archive.{blocks, archive}
+use Rattle.files.specs.Survey.{blocks}
+use Rattle.archive.specs.Archive.{archive}
 
 pub record Starred : Type 0 where
   -- 4-and-4: AA AA is 0; AA BB is 11h; FF FE is FEh

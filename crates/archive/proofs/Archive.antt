@@ -10,7 +10,8 @@ use Rattle.outcome.specs.Outcome.{given, number}
 use Rattle.outcome.proofs.Outcome.{required, met, gives, number-0}
 use Rattle.files.specs.Contents.{Contents, Proper, contents}
 use Rattle.lists.specs.Every.{Every}
-use Rattle.archive.specs.Archive.{blocks, archive, archiveOf, check}
+use Rattle.files.specs.Survey.{blocks}
+use Rattle.archive.specs.Archive.{archive, archiveOf, check}
 use Rattle.archive.specs.Reader.{opened}
 use Rattle.lists.proofs.Equal.{same-eq, same-refl}
 use Rattle.archive.proofs.Back.{archive-back}

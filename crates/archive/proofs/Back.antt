@@ -12,7 +12,8 @@ use Rattle.outcome.specs.Outcome.{Outcome, refused, given, _>>=_}
 use Rattle.lists.proofs.Split.{by-test, by-lt}
 use Rattle.files.specs.Contents.{File, Contents, Proper}
 use Rattle.lists.specs.Every.{Every, none, more}
-use Rattle.archive.specs.Archive.{blocksFor, dataBlocks, blocksIn, blocks, dataBlock, dataChain, entryBlock, ifAny, entryChain, firstBlock, archive}
+use Rattle.files.specs.Survey.{blocksFor, dataBlocks, blocksIn, blocks}
+use Rattle.archive.specs.Archive.{dataBlock, dataChain, entryBlock, ifAny, entryChain, firstBlock, archive}
 use Rattle.archive.specs.Reader.{sizeIn, entryIn, allowed, soundEntry, partIn, soundData, entriesFrom, dataFrom, soundFirst, opened}
 use Rattle.lists.proofs.Equal.{same-refl}
 use Rattle.lists.proofs.Select.{all-below}

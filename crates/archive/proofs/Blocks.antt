@@ -10,7 +10,8 @@ use Rattle.lists.specs.Words.{le2}
 use Rattle.lists.proofs.Laws.{length-padded}
 use Rattle.files.specs.Contents.{File, Contents, Proper}
 use Rattle.lists.specs.Every.{Every, none, more}
-use Rattle.archive.specs.Archive.{dataBlocks, blocksIn, blocks, dataBlock, dataChain, entryBlock, ifAny, entryChain, firstBlock, archive}
+use Rattle.files.specs.Survey.{dataBlocks, blocksIn, blocks}
+use Rattle.archive.specs.Archive.{dataBlock, dataChain, entryBlock, ifAny, entryChain, firstBlock, archive}
 
 -- a data block
 pub length-data : (next : ℕ) (xs : List ℕ) → length xs ≤ 254 → length (dataBlock next xs) ≡ 256

@@ -4,4 +4,3 @@ pub mod Blocks
 pub mod Reader
 pub mod Returns
 pub mod Steps
-pub mod Survey

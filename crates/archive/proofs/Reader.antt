@@ -17,7 +17,8 @@ use Rattle.lists.proofs.Split.{by-lt, both-true}
 use Rattle.lists.proofs.Bounds.{bytes-append, bytes-take, bytes-drop}
 use Rattle.files.specs.Contents.{File, Contents, Proper}
 use Rattle.lists.specs.Every.{Every, none, more}
-use Rattle.archive.specs.Archive.{blocksFor, blocksIn, blocks, dataBlock, dataChain, entryBlock, entryChain, firstBlock, archive}
+use Rattle.files.specs.Survey.{blocksFor, blocksIn, blocks}
+use Rattle.archive.specs.Archive.{dataBlock, dataChain, entryBlock, entryChain, firstBlock, archive}
 use Rattle.archive.specs.Reader.{sizeIn, entryIn, allowed, soundEntry, partIn, soundData, entriesFrom, dataFrom, soundFirst, opened}
 use Rattle.lists.specs.Same.{same}
 use Rattle.lists.proofs.Equal.{same-eq}

@@ -10,23 +10,7 @@ use Rattle.lists.specs.Same.{same}
 use Rattle.lists.specs.Words.{le2, le3}
 use Rattle.outcome.specs.Outcome.{Outcome, given, _>>=_, _>>_, require}
 use Rattle.files.specs.Contents.{File, Contents, contents}
-
--- data blocks for so many bytes
-abbrev pub blocksFor : ℕ → ℕ
-blocksFor size = (size + 253) / 254
-
--- those of a file
-abbrev pub dataBlocks : File → ℕ
-dataBlocks f = blocksFor (length (f .bytes))
-
--- the blocks of some files, entry blocks among them
-unfoldable pub blocksIn : List File → ℕ
-blocksIn [] = 0
-blocksIn (f ∷ fs) = 1 + dataBlocks f + blocksIn fs
-
--- all blocks, block 0 among them
-abbrev pub blocks : Contents → ℕ
-blocks c = 1 + blocksIn (c .files)
+use Rattle.files.specs.Survey.{dataBlocks, blocks}
 
 -- a data block: the next one's number, and at most 254 bytes
 unfoldable pub dataBlock : ℕ → List ℕ → List ℕ

@@ -11,7 +11,8 @@ use Rattle.lists.specs.Select.{all}
 use Rattle.lists.specs.Words.{wordAt}
 use Rattle.catalog.specs.Catalog.{kindOf, trimmed}
 use Rattle.files.specs.Contents.{File, Contents}
-use Rattle.archive.specs.Archive.{blocksFor, dataBlock, entryBlock, firstBlock}
+use Rattle.files.specs.Survey.{blocksFor}
+use Rattle.archive.specs.Archive.{dataBlock, entryBlock, firstBlock}
 
 -- What an entry block says, s being the bytes from that block on: the data length, ..
 abbrev pub sizeIn : List ℕ → ℕ

@@ -103,7 +103,7 @@ fn letter_of(b: u8) -> u8
 }
 
 // Where entry i of a page starts.
-fn entry_start(per: u8, p: Place, i: u8) -> usize
+pub fn entry_start(per: u8, p: Place, i: u8) -> usize
     ensures is { λ r. ⌜ r ≡ start per p + (11 + 35 * i) ⌝ }
     ensures small { λ r. ⌜ r < 16793600 ⌝ }
 {
@@ -138,7 +138,7 @@ fn plain_entry(disk: &[u8], x: usize) -> bool
 }
 
 // No live name of a page holds 80h.
-fn plain_page(disk: &[u8], per: u8, p: Place) -> bool
+pub fn plain_page(disk: &[u8], per: u8, p: Place) -> bool
     ensures { λ r. ⌜ r ≡ plainNames (entriesOf per (now (disk .entry)) p) ⌝ }
 {
     for i in 0..7u8 {
@@ -173,7 +173,7 @@ fn live_entries(disk: &[u8], per: u8, p: Place) -> u16
 }
 
 // A page whose link has a zero is the last.
-fn last_page(disk: &[u8], per: u8, p: Place) -> bool
+pub fn last_page(disk: &[u8], per: u8, p: Place) -> bool
     ensures { λ r. ⌜ r ≡ lastPage per (now (disk .entry)) p ⌝ }
 {
     if byte_of(disk, per, p, 1) == 0 {
@@ -225,7 +225,7 @@ fn count_from(disk: &[u8], per: u8, first: Place) -> Pages
 }
 
 // The first page: on track 17, whatever the table says of its track.
-fn first_page(disk: &[u8], per: u8) -> Place
+pub fn first_page(disk: &[u8], per: u8) -> Place
     ensures { λ r. ⌜ r ≡ firstPage per (now (disk .entry)) ⌝ }
 {
     let vtoc = Place {

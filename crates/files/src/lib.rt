@@ -5,7 +5,18 @@ ghost use mathlib.Core.Bool.{cond};
 ghost use lib.Dec.{eqb};
 ghost use Rattle.disk.specs.Disk.{place, byteOf};
 ghost use Rattle.files.specs.Contents.{pairAt, pairsOf, wholeLink, listWalk};
+ghost use lib.ListN.{take};
+ghost use Rattle.lists.specs.Same.{same};
+ghost use Rattle.files.specs.Totals.{choice, noChoice, noneYet, noTotals, totaled, walkTotals, totals, withLink, Within, Bounded, Joined, Entered, Added, Linked, Ranged, Paged};
 ghost use Rattle.files.specs.Threads.{headOf, noThread, endThread, runOf, followed, sizeOf};
+use catalog::FileEntry;
+use catalog::Name;
+use catalog::entry_start;
+use catalog::first_page;
+use catalog::last_page;
+use catalog::parse_file_entry;
+use catalog::plain_page;
+use catalog::valid_file;
 use disk::Place;
 use disk::Sector;
 use disk::Track;
@@ -13,6 +24,11 @@ use disk::byte_of;
 use disk::chain_budget;
 use disk::link_of;
 use disk::on_disk;
+use disk::table_refusal;
+use lists::byte_at;
+use lists::part;
+use lists::same;
+use outcome::BAD_LETTER;
 use outcome::CUT_LINK;
 use outcome::OFF_DISC;
 use outcome::RING;
@@ -29,6 +45,22 @@ pub struct Thread {
     pub lists: u16,
     pub pairs: u32,
     pub head: Place,
+}
+
+// An entry that was asked for: its first list and its type.
+pub struct Choice {
+    pub found: bool,
+    pub list: Place,
+    pub kind: u8,
+}
+
+// What a pass over the catalog comes to: the first refusal, or the number of entries, of lists, of archive blocks, and the entry asked for.
+pub struct Totals {
+    pub refusal: u8,
+    pub entries: u32,
+    pub links: u64,
+    pub blocks: u64,
+    pub choice: Choice,
 }
 
 fn no_place() -> Place
@@ -171,4 +203,257 @@ fn build_file(disk: &[u8], per: u8, first: Place) -> Thread
         }
         p = link_of(disk, per, p);
     }
+}
+
+// How many bytes a file has: of a Binary the stated length where that fits, else all; of other types none.
+fn file_size(disk: &[u8], per: u8, kind: u8, t: Thread) -> u32
+    ensures is { λ r. ⌜ r ≡ sizeOf per (now (disk .entry)) kind t ⌝ }
+    ensures small { λ r. ⌜ r ≤ 65538 ⌝ }
+{
+    if kind != 4 {
+        return 0;
+    }
+    let head = t.head;
+    let low = byte_of(disk, per, head, 2) as u64;
+    let high = byte_of(disk, per, head, 3) as u64;
+    let stated = low + 256 * high;
+    let total = 256 * (t.pairs as u64);
+    if 4 + stated <= total {
+        return stated as u32;
+    }
+    total as u32
+}
+
+// A refusal: zeros.
+fn no_totals(number: u8) -> Totals
+    ensures { λ r. ⌜ r ≡ noTotals number ⌝ }
+{
+    Totals {
+        refusal: number,
+        entries: 0,
+        links: 0,
+        blocks: 0,
+        choice: no_choice(),
+    }
+}
+
+fn no_choice() -> Choice
+    ensures { λ r. ⌜ r ≡ noChoice ⌝ }
+{
+    Choice {
+        found: false,
+        list: no_place(),
+        kind: 0,
+    }
+}
+
+// The name is the entry's shown name.
+fn same_name(name: &[u8], shown: Name) -> bool
+    ensures { λ r. ⌜ r ≡ same (now (name .entry)) (take (shown .length) (shown .letters)) ⌝ }
+{
+    let letters = shown.letters;
+    let n = shown.length as usize;
+    same(name, part(&letters, 0, n))
+}
+
+// Entry number j with that shown name is the one asked for: by its name, or by its number.
+fn picks(named: bool, number: u64, name: &[u8], j: u32, shown: Name) -> bool
+    ensures { λ r. ⌜ r ≡ cond named (same (now (name .entry)) (take (shown .length) (shown .letters))) (eqb j number) ⌝ }
+{
+    if named {
+        return same_name(name, shown);
+    }
+    j as u64 == number
+}
+
+// The new choice where it is taken, else the old one.
+fn choose(old: Choice, pick: bool, list: Place, kind: u8) -> Choice
+    ensures { λ r. ⌜ r ≡ cond pick (choice list kind) old ⌝ }
+{
+    if pick {
+        return Choice {
+            found: true,
+            list: list,
+            kind: kind,
+        };
+    }
+    old
+}
+
+// The totals with one entry more, h being what its lists come to.
+fn add_thread(
+    disk: &[u8],
+    per: u8,
+    t: Totals,
+    e: FileEntry,
+    h: Thread,
+    named: bool,
+    number: u64,
+    name: &[u8],
+) -> Totals
+    requires { ⌜ Within t 100000 ⌝ }
+    ensures { λ r. ⌜ Joined per (now (disk .entry)) named number (now (name .entry)) t e h r ⌝ }
+{
+    if h.refusal != 0 {
+        return no_totals(h.refusal);
+    }
+    let list = e.list;
+    let kind = e.file_type;
+    let shown = e.name;
+    let old = t.choice;
+    let size = file_size(disk, per, kind, h) as u64;
+    let pick = picks(named, number, name, t.entries, shown);
+    Totals {
+        refusal: 0,
+        entries: t.entries + 1,
+        links: t.links + h.lists as u64,
+        blocks: t.blocks + (1 + (size + 253) / 254),
+        choice: choose(old, pick, list, kind),
+    }
+}
+
+// The totals with the entry from x on.
+fn add_live(
+    disk: &[u8],
+    per: u8,
+    t: Totals,
+    x: usize,
+    named: bool,
+    number: u64,
+    name: &[u8],
+) -> Totals
+    requires { ⌜ Within t 100000 ⌝ }
+    ensures { λ r. ⌜ Entered per (now (disk .entry)) named number (now (name .entry)) t x r ⌝ }
+{
+    let e = parse_file_entry(disk, x);
+    let list = e.list;
+    let h = build_file(disk, per, list);
+    add_thread(disk, per, t, e, h, named, number, name)
+}
+
+// The same, where it is in use; the first refusal stands.
+fn add_entry(
+    disk: &[u8],
+    per: u8,
+    t: Totals,
+    x: usize,
+    named: bool,
+    number: u64,
+    name: &[u8],
+) -> Totals
+    requires { ⌜ Within t 100000 ⌝ }
+    ensures { λ r. ⌜ Added per (now (disk .entry)) named number (now (name .entry)) t x r ⌝ }
+{
+    if t.refusal != 0 {
+        return t;
+    }
+    if valid_file(byte_at(disk, x)) {
+        return add_live(disk, per, t, x, named, number, name);
+    }
+    t
+}
+
+// The totals with one link more.
+fn add_link(t: Totals) -> Totals
+    requires { ⌜ Within t 100000 ⌝ }
+    ensures { λ r. ⌜ Linked t r ⌝ }
+{
+    if t.refusal != 0 {
+        return t;
+    }
+    let old = t.choice;
+    Totals {
+        refusal: 0,
+        entries: t.entries,
+        links: t.links + 1,
+        blocks: t.blocks,
+        choice: old,
+    }
+}
+
+// The totals with the entries of one page more.
+fn add_entries(
+    disk: &[u8],
+    per: u8,
+    before: Totals,
+    p: Place,
+    named: bool,
+    number: u64,
+    name: &[u8],
+) -> Totals
+    requires { ⌜ Within before 90001 ⌝ }
+    ensures { λ r. ⌜ Ranged per (now (disk .entry)) named number (now (name .entry)) before p r ⌝ }
+{
+    let mut t = before;
+    for i in 0..7u8 {
+        t = add_entry(disk, per, t, entry_start(per, p, i), named, number, name);
+    }
+    t
+}
+
+// The totals with one page more: a link, and its entries.
+fn add_page(
+    disk: &[u8],
+    per: u8,
+    t: Totals,
+    p: Place,
+    named: bool,
+    number: u64,
+    name: &[u8],
+) -> Totals
+    requires { ⌜ Within t 90000 ⌝ }
+    ensures { λ r. ⌜ Paged per (now (disk .entry)) named number (now (name .entry)) t p r ⌝ }
+{
+    add_entries(disk, per, add_link(t), p, named, number, name)
+}
+
+// Totals of nothing yet: block 0 alone.
+fn none_yet() -> Totals
+    ensures { λ r. ⌜ r ≡ noneYet ⌝ }
+{
+    Totals {
+        refusal: 0,
+        entries: 0,
+        links: 0,
+        blocks: 1,
+        choice: no_choice(),
+    }
+}
+
+// The totals of the pages from `first` on. A page's refusal stands before any entry's, so all pages are read also after an entry refused.
+fn build_files(disk: &[u8], per: u8, first: Place, named: bool, number: u64, name: &[u8]) -> Totals
+    ensures { λ r. ⌜ r ≡ totaled (walkTotals per (now (disk .entry)) named number (now (name .entry)) first) ⌝ }
+{
+    let most = chain_budget(per);
+    let mut p = first;
+    let mut k: u16 = 0;
+    let mut t = none_yet();
+    loop {
+        if most <= k {
+            return no_totals(RING);
+        }
+        if !on_disk(per, p) {
+            return no_totals(OFF_DISC);
+        }
+        if !plain_page(disk, per, p) {
+            return no_totals(BAD_LETTER);
+        }
+        t = add_page(disk, per, t, p, named, number, name);
+        k += 1;
+        if last_page(disk, per, p) {
+            return t;
+        }
+        p = link_of(disk, per, p);
+    }
+}
+
+// The totals of a flat disk, and the entry asked for; refusals 1 to 6 in the flat order.
+fn go_through(disk: &[u8], named: bool, number: u64, name: &[u8]) -> Totals
+    ensures { λ r. ⌜ r ≡ totaled (totals 16 (now (disk .entry)) named number (now (name .entry))) ⌝ }
+{
+    let refusal = table_refusal(disk, 16);
+    if refusal != 0 {
+        return no_totals(refusal);
+    }
+    build_files(disk, 16, first_page(disk, 16), named, number, name)
 }

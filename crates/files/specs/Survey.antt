@@ -1,17 +1,33 @@
--- Fetch by name and survey: document 01, "Survey" and, under "Beside these", bytes by name.
+-- Fetch by name and survey, and how many blocks an archive needs: document 01, "Survey", the need under "Return", and bytes by name under "Beside these".
 use mathlib.Core.Bool.{cond}
 use mathlib.Core.List.{List, [], _∷_, map}
-use Prim.Native.Nat.{ℕ, _+_, _-_}
+use Prim.Native.Nat.{ℕ, _+_, _-_, _/_}
 use lib.ListN.{length}
+use Rattle.lists.specs.Same.{same}
 use Rattle.outcome.specs.declared.Refusal.the-variants.{NotOnRoll}
 use Rattle.outcome.specs.Outcome.{Outcome, refused, given, _>>=_, each}
+use Rattle.disk.specs.declared.Place.{Place}
 use Rattle.disk.specs.Disk.{sectors}
 use Rattle.disk.specs.Vtoc.{freeBelow, percent}
-use Rattle.lists.specs.Same.{same}
-use Rattle.disk.specs.declared.Place.{Place}
 use Rattle.catalog.specs.Catalog.{Entry, catalog, pages}
 use Rattle.files.specs.Contents.{File, Contents, contents, lists}
-use Rattle.archive.specs.Archive.{blocks}
+
+-- data blocks for so many bytes
+abbrev pub blocksFor : ℕ → ℕ
+blocksFor size = (size + 253) / 254
+
+-- those of a file
+abbrev pub dataBlocks : File → ℕ
+dataBlocks f = blocksFor (length (f .bytes))
+
+-- the blocks of some files, entry blocks among them
+unfoldable pub blocksIn : List File → ℕ
+blocksIn [] = 0
+blocksIn (f ∷ fs) = 1 + dataBlocks f + blocksIn fs
+
+-- all blocks, block 0 among them
+abbrev pub blocks : Contents → ℕ
+blocks c = 1 + blocksIn (c .files)
 
 -- the bytes of the last file of a shown name
 unfoldable pub lastNamed : List ℕ → List File → Outcome (List ℕ)

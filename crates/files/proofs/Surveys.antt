@@ -17,11 +17,11 @@ use Rattle.outcome.specs.Outcome.{Outcome, refused, given, each}
 use Rattle.outcome.proofs.Outcome.{gives, refused-given, each-all, each-also, length-each}
 use Rattle.catalog.specs.Catalog.{Entry, catalog, pages}
 use Rattle.catalog.proofs.Order.{catalog-given, pages-short}
-use Rattle.files.specs.Contents.{File, Contents, contents, lists, fileOf}
+use Rattle.files.specs.Contents.{File, Contents, contents, listWalk, lists, fileOf}
 use Rattle.files.proofs.Order.{contents-given, file-given, lists-short}
 use Rattle.files.proofs.Proper.{all-short}
-use Rattle.archive.specs.Archive.{blocksIn}
-use Rattle.archive.specs.Calls.{Survey, surveyOf, survey, sumOf}
+use Rattle.files.specs.Survey.{blocksIn}
+use Rattle.files.specs.Survey.{Survey, surveyOf, survey, sumOf}
 
 -- a part of a whole is at most 100 of 100
 pub percent-small : (total used : ℕ) → used ≤ total → percent total used ≤ 100
