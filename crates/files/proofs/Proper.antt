@@ -57,19 +57,20 @@ bytesIn-short kind k s b e =
     (λ l. let m = leb-false (4 + stated) (length s) l in rw l (omega arith))))
     (λ q. rw q (omega arith))
 
-module _ (n : ℕ) (d : List ℕ) (bytes : Bytes d) where
-  -- the sectors of some places, joined
-  joined-bytes : (ps : List Place) → Bytes (flatMap (bytesOf n d) ps)
-  unfolding bytesOf
-  joined-bytes ps = at-flatMap (λ x. x < 256) (omega arith) (bytesOf n d) ps (λ p. at-part (λ x. x < 256) (omega arith) 256 (start n p) d bytes)
-
+module _ (n : ℕ) (d : List ℕ) where
   -- sectors on the disk are whole
-  all-long : length d ≡ 256 * sectors n → (ps : List Place) → all (onDisk n) ps ≡ true → Every (λ (p : Place). length (bytesOf n d p) ≡ 256) ps
+  pub all-long : length d ≡ 256 * sectors n → (ps : List Place) → all (onDisk n) ps ≡ true → Every (λ (p : Place). length (bytesOf n d p) ≡ 256) ps
   unfolding all
   all-long h [] a = Every.none
   all-long h (p ∷ ps) a =
       let b = both-true (onDisk n p) _ a in
       Every.more (length-sector n d p h (b .0)) (all-long h ps (b .1))
+
+module _ (n : ℕ) (d : List ℕ) (bytes : Bytes d) where
+  -- the sectors of some places, joined
+  joined-bytes : (ps : List Place) → Bytes (flatMap (bytesOf n d) ps)
+  unfolding bytesOf
+  joined-bytes ps = at-flatMap (λ x. x < 256) (omega arith) (bytesOf n d) ps (λ p. at-part (λ x. x < 256) (omega arith) 256 (start n p) d bytes)
 
   -- ---- the files
 
@@ -95,7 +96,7 @@ module _ (n : ℕ) (d : List ℕ) (bytes : Bytes d) where
   file-short l e f h =
       let g = file-given n d e f h in
       let ps : List Place = flatMap (pairsOf n d) (g .0) in
-      rw (g .3) (bytesIn-short (e .kind) (length ps) _ (joined-bytes ps) (length-chunks (bytesOf n d) 256 (all-long l ps (g .2))))
+      rw (g .3) (bytesIn-short (e .kind) (length ps) _ (joined-bytes ps) (length-chunks (bytesOf n d) 256 (all-long n d l ps (g .2))))
 
   -- a catalog is read of a disk of the right size alone
   pub catalog-size : (es : List Entry) → catalog n d ≡ given es → length d ≡ 256 * sectors n

@@ -177,7 +177,7 @@ module _ {A B : Type 0} (f : A → Outcome B) where
   each-on x xs y e = rw e refl
 
   -- the first is done, and then the rest
-  each-cons : (x : A) (xs : List A) (zs : List B) → each f (x ∷ xs) ≡ given zs
+  pub each-cons : (x : A) (xs : List A) (zs : List B) → each f (x ∷ xs) ≡ given zs
       → (y : B) × (ys : List B) × (f x ≡ given y) × (each f xs ≡ given ys) × (zs ≡ y ∷ ys)
   unfolding each
   each-cons x xs zs e =
