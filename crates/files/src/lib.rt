@@ -8,6 +8,7 @@ ghost use Rattle.files.specs.Contents.{pairAt, pairsOf, wholeLink, listW
 ghost use lib.ListN.{take};
 ghost use Rattle.lists.specs.Same.{same};
 ghost use Rattle.files.specs.Totals.{choice, noChoice, noneYet, noTotals, totaled, walkTotals, totals, withLink, Within, Bounded, Joined, Entered, Added, Linked, Ranged, Paged};
+ghost use Rattle.files.specs.Survey.{survey, noSurvey, surveyed};
 ghost use Rattle.files.specs.Threads.{headOf, noThread, endThread, runOf, followed, sizeOf};
 use catalog::FileEntry;
 use catalog::Name;
@@ -24,6 +25,7 @@ use disk::byte_of;
 use disk::chain_budget;
 use disk::link_of;
 use disk::on_disk;
+use disk::parse_volume_table_of_contents;
 use disk::table_refusal;
 use lists::byte_at;
 use lists::part;
@@ -61,6 +63,18 @@ pub struct Totals {
     pub links: u64,
     pub blocks: u64,
     pub choice: Choice,
+}
+
+// The numbers of a survey, or a refusal.
+pub struct DiskSurvey {
+    pub refusal: u8,
+    pub volume: u8,
+    pub entries: u32,
+    pub free: u32,
+    pub used: u32,
+    pub percent_used: u32,
+    pub archive_blocks: u64,
+    pub links: u64,
 }
 
 fn no_place() -> Place
@@ -456,4 +470,41 @@ fn go_through(disk: &[u8], named: bool, number: u64, name: &[u8]) -> Totals
         return no_totals(refusal);
     }
     build_files(disk, 16, first_page(disk, 16), named, number, name)
+}
+
+// A refusal: zeros.
+fn no_survey(number: u8) -> DiskSurvey
+    ensures { λ r. ⌜ r ≡ noSurvey number ⌝ }
+{
+    DiskSurvey {
+        refusal: number,
+        volume: 0,
+        entries: 0,
+        free: 0,
+        used: 0,
+        percent_used: 0,
+        archive_blocks: 0,
+        links: 0,
+    }
+}
+
+// The survey of a flat disk: volume, entries, free, used, percent used, archive blocks, and the links followed; refusals 1 to 6.
+pub fn survey(disk: &[u8]) -> DiskSurvey
+    ensures { λ r. ⌜ r ≡ surveyed (survey 16 (now (disk .entry))) ⌝ }
+{
+    let t = go_through(disk, false, 0, b"");
+    if t.refusal != 0 {
+        return no_survey(t.refusal);
+    }
+    let v = parse_volume_table_of_contents(disk);
+    DiskSurvey {
+        refusal: 0,
+        volume: v.diskette_volume_number,
+        entries: t.entries,
+        free: v.free,
+        used: v.used,
+        percent_used: v.percent_used,
+        archive_blocks: t.blocks,
+        links: t.links,
+    }
 }
