@@ -30,7 +30,7 @@ pair-is n d p i t s a b = rw (a, b) refl
 
 module _ (n : ℕ) (d : List ℕ) (p : Place) where
   -- the pairs from i on
-  abbrev behind : ℕ → List Place
+  abbrev pub behind : ℕ → List Place
   behind i = takeWhile isPair (onward (pairAt n d p) maxPairs i)
 
   -- i pairs were read, and `good` says whether all of them are on the disk
@@ -43,14 +43,19 @@ module _ (n : ℕ) (d : List ℕ) (p : Place) where
   unfolding pairsOf
   pairing-none = record { count = omega arith; long = omega arith; on = refl }
 
+  -- behind all of them
+  pub none-behind : (i : ℕ) → 121 ≤ i → behind i ≡ []
+  unfolding takeWhile
+  none-behind i h = rw (onward-end (pairAt n d p) maxPairs i h) refl
+
   -- behind the last pair
-  stop : (i : ℕ) → i < 121 → (q : Place) → q ≡ pairAt n d p i → q .track .0 ≡ 0 → behind i ≡ []
+  pub stop : (i : ℕ) → i < 121 → (q : Place) → q ≡ pairAt n d p i → q .track .0 ≡ 0 → behind i ≡ []
   stop i h q e z =
       let t : isPair (pairAt n d p i) ≡ false = sym (ap isPair e) ∙ rw (eq-eqb (q .track .0) 0 z) refl in
       ap (takeWhile isPair) (onward-next (pairAt n d p) maxPairs i h) ∙ takeWhile-stop isPair (pairAt n d p i) _ t
 
   -- one pair more
-  next : (i : ℕ) → i < 121 → (q : Place) → q ≡ pairAt n d p i → (q .track .0 ≡ 0 → ⊥) → behind i ≡ q ∷ behind (i + 1)
+  pub next : (i : ℕ) → i < 121 → (q : Place) → q ≡ pairAt n d p i → (q .track .0 ≡ 0 → ⊥) → behind i ≡ q ∷ behind (i + 1)
   next i h q e z =
       let t : isPair (pairAt n d p i) ≡ true = sym (ap isPair e) ∙ rw (ne-eqb (q .track .0) 0 z) refl in
       ap (takeWhile isPair) (onward-next (pairAt n d p) maxPairs i h) ∙ takeWhile-next isPair (pairAt n d p i) _ t
@@ -72,8 +77,7 @@ module _ (n : ℕ) (d : List ℕ) (p : Place) where
     pairing-stop h q e z = ends (stop i h q e z)
 
     pub pairing-full : 121 ≤ i → record { count = i; good = good } ≡ runOf n d p
-    unfolding takeWhile
-    pairing-full h = ends (rw (onward-end (pairAt n d p) maxPairs i h) refl)
+    pairing-full h = ends (none-behind i h)
 
     pub pairing-few : i ≤ 121
     pairing-few = c .count

@@ -163,8 +163,7 @@ module _ (n : ℕ) (d : List ℕ) (b : Bool) (j : ℕ) (x : List ℕ) where
         let f : File = fileWith n d e (flatMap (pairsOf n d) (g .0)) in
         let o : withEntry n d b j x t e ≡ plus t 0 (e ∷ []) (f ∷ []) (g .0 ∷ []) = one-plus t e (g .0) z (g .1) (g .2) in
         let i = some-given es (plus t 0 (e ∷ []) (f ∷ []) (g .0 ∷ [])) (c .1) refl (c .3) in
-        let w : f ∷ c .1 ≡ fs = ap (λ (y : File). y ∷ c .1) (sym (g .3)) ∙ sym (c .4) in
-        (
+        let w : f ∷ c .1 ≡ fs = ap (λ (y : File). y ∷ c .1) (sym (g .3)) ∙ sym (c .4) in (
           g .0 ∷ i .0,
           each-on (lists n d) e es (g .0) (g .1) ∙ rw (i .1) refl,
           ap (λ (u : Totals). foldl (withEntry n d b j x) u es) o ∙ i .2
@@ -241,8 +240,7 @@ module _ (n : ℕ) (d : List ℕ) (b : Bool) (j : ℕ) (x : List ℕ) where
         let w : a .0 ++ c .0 ≡ fs = let y = c .2 in cc in
         let o = page-given p t (a .0) z (a .1) in
         let i = pages-given ps (plus t 1 (entriesOf n d p) (a .0) (o .0)) (c .0) refl (c .1) in
-        let m : 1 + length ps ≡ suc (length ps) = omega arith in
-        (
+        let m : 1 + length ps ≡ suc (length ps) = omega arith in (
           o .0 ++ i .0,
           each-append (lists n d) (entriesOf n d p) (flatMap (entriesOf n d) ps) ∙ rw (o .1, i .1) refl,
           ap (λ (u : Totals). foldl (withPage n d b j x) u ps) (o .2) ∙ i .2

@@ -1,14 +1,15 @@
 // The files of a disk: track/sector lists, pairs, file bytes (catalog.rs).
 ghost use mathlib.Core.Path.{_≡_};
-ghost use Prim.Native.Nat.{ℕ, _+_, _*_, _<_, _≤_};
+ghost use Prim.Native.Nat.{ℕ, _+_, _-_, _*_, _<_, _≤_};
 ghost use mathlib.Core.Bool.{cond};
 ghost use lib.Dec.{eqb};
-ghost use Rattle.disk.specs.Disk.{place, byteOf};
+ghost use Rattle.disk.specs.Disk.{place, byteOf, bytesOf};
 ghost use Rattle.files.specs.Contents.{pairAt, pairsOf, wholeLink, listWalk};
 ghost use lib.ListN.{take};
 ghost use Rattle.lists.specs.Same.{same};
 ghost use Rattle.files.specs.Totals.{choice, noChoice, noneYet, noTotals, totaled, walkTotals, totals, withLink, Within, Bounded, Joined, Entered, Added, Linked, Ranged, Paged};
 ghost use Rattle.files.specs.Survey.{survey, noSurvey, surveyed};
+ghost use Rattle.files.specs.Copies.{Copied, Roomy, listBytes};
 ghost use Rattle.files.specs.Threads.{headOf, noThread, endThread, runOf, followed, sizeOf};
 use catalog::FileEntry;
 use catalog::Name;
@@ -26,8 +27,10 @@ use disk::chain_budget;
 use disk::link_of;
 use disk::on_disk;
 use disk::parse_volume_table_of_contents;
+use disk::sector_start;
 use disk::table_refusal;
 use lists::byte_at;
+use lists::copy_at;
 use lists::part;
 use lists::same;
 use outcome::BAD_LETTER;
@@ -75,6 +78,12 @@ pub struct DiskSurvey {
     pub percent_used: u32,
     pub archive_blocks: u64,
     pub links: u64,
+}
+
+// How far a copy has come: the place for the next byte, and how many bytes are still to be passed over.
+pub struct Spot {
+    pub at: usize,
+    pub skip: usize,
 }
 
 fn no_place() -> Place
@@ -507,4 +516,48 @@ pub fn survey(disk: &[u8]) -> DiskSurvey
         archive_blocks: t.blocks,
         links: t.links,
     }
+}
+
+// The difference, or 0.
+fn less(a: usize, b: usize) -> usize
+    ensures { λ r. ⌜ r ≡ a - b ⌝ }
+{
+    if a < b {
+        return 0;
+    }
+    a - b
+}
+
+// Copies what is wanted of one sector.
+fn copy_sector(disk: &[u8], per: u8, q: Place, out: &mut [u8], size: usize, s: Spot) -> Spot
+    requires { ⌜ Roomy size s (now out) ⌝ }
+    ensures { λ r. ⌜ Copied size (bytesOf per (now (disk .entry)) q) s (now (out .entry)) (now (out .exit)) r ⌝ }
+{
+    let at = s.at;
+    let skip = s.skip;
+    let sector = part(disk, sector_start(per, q), 256);
+    let piece = part(sector, skip, size - at);
+    copy_at(piece, out, at);
+    Spot {
+        at: at + piece.len(),
+        skip: less(skip, sector.len()),
+    }
+}
+
+// Copies what is wanted of the sectors of one list.
+fn copy_pairs(disk: &[u8], per: u8, p: Place, out: &mut [u8], size: usize, first: Spot) -> Spot
+    requires { ⌜ Roomy size first (now out) ⌝ }
+    ensures { λ r. ⌜ Copied size (listBytes per (now (disk .entry)) p) first (now (out .entry)) (now (out .exit)) r ⌝ }
+{
+    let mut s = first;
+    let mut i: u8 = 0;
+    while i < 121 {
+        let q = parse_track_sector_pair(disk, per, p, i);
+        if q.track.0 == 0 {
+            return s;
+        }
+        s = copy_sector(disk, per, q, out, size, s);
+        i += 1;
+    }
+    s
 }

@@ -1,0 +1,42 @@
+-- A part of joined sectors, copied sector by sector: document 01, "Load". What the steps of the code promise each other.
+use mathlib.Core.Path.{_≡_}
+use mathlib.Core.Bool.{cond}
+use mathlib.Core.List.{List, flatMap}
+use Prim.Native.Nat.{ℕ, _+_, _-_, _*_, _≤_}
+use lib.ListN.{length, take, drop}
+use lib.Dec.{eqb, leb}
+use Rattle.lists.specs.Fill.{put}
+use Rattle.outcome.specs.Outcome.{Outcome, given, _>>=_}
+use Rattle.disk.specs.declared.Place.{Place}
+use Rattle.disk.specs.Disk.{wordOf, bytesOf}
+use Rattle.files.specs.declared.Spot.{Spot}
+use Rattle.files.specs.declared.Thread.{Thread}
+use Rattle.files.specs.Contents.{pairsOf, listWalk}
+
+-- at most `size` elements of y from `skip` on
+abbrev pub cutOf : (size skip : ℕ) → List ℕ → List ℕ
+cutOf size skip y = take size (drop skip y)
+
+-- y was met at the spot s, `size` bytes being wanted in all: its part that is wanted was put in, and r is the spot behind it
+pub record Copied (size : ℕ) (y : List ℕ) (s : Spot) (before after : List ℕ) (r : Spot) : Type 0 where
+  pub puts : after ≡ put (s .at) (cutOf (size - s .at) (s .skip) y) before
+  pub at : r .at ≡ s .at + length (cutOf (size - s .at) (s .skip) y)
+  pub skip : r .skip ≡ s .skip - length y
+
+-- there is room for all that is wanted
+pub record Roomy (size : ℕ) (s : Spot) (out : List ℕ) : Type 0 where
+  pub within : s .at ≤ size
+  pub fits : size ≤ length out
+
+module _ (n : ℕ) (d : List ℕ) where
+  -- the sectors of a list's pairs, joined
+  unfoldable pub listBytes : Place → List ℕ
+  listBytes p = flatMap (bytesOf n d) (pairsOf n d p)
+
+  -- those of all lists from p on
+  unfoldable pub walkBytes : Place → Outcome (List ℕ)
+  walkBytes p = listWalk n d p >>= λ ls. given (flatMap listBytes ls)
+
+  -- where a file's bytes begin in its joined sectors
+  unfoldable pub startOf : ℕ → Thread → ℕ
+  startOf kind t = cond (eqb kind 4) (cond (leb (4 + wordOf n d (t .head) 2) (256 * t .pairs)) 4 0) 0
