@@ -2,7 +2,7 @@
 -- Records, "Thread" and "Load" under Modules, and under "Return" what a load is.
 use mathlib.Core.Path.{_≡_}
 use mathlib.Core.Bool.{Bool, cond, not, _||_}
-use mathlib.Core.List.{List, [], map, flatMap}
+use mathlib.Core.List.{List, [], _∷_, map, flatMap}
 use mathlib.Core.Option.{Option, none, some}
 use Prim.Native.Nat.{ℕ, _+_, _*_, _<_, _≤_}
 use lib.ListN.{length, getD, take, drop}
@@ -45,6 +45,10 @@ pub record Proper (f : File) : Type 0 where
 -- the pairs that a list can have: as the Rust has it; BAD has 122
 abbrev pub maxPairs : ℕ
 maxPairs = 121
+
+-- a place in two bytes: track, sector
+abbrev pub placeBytes : Place → List ℕ
+placeBytes p = p .track .0 ∷ p .sector .0 ∷ []
 
 -- a pair with track zero is none
 abbrev pub isPair : Place → Bool
@@ -106,3 +110,7 @@ module _ (n : ℕ) (d : List ℕ) where
   -- the pairs of one list, asked for by its location: 1, 3; the pairs are not followed
   unfoldable pub pairsAt : Place → Outcome (List Place)
   pairsAt p = sized n d >> require (onDisk n p) OffDisc >> given (pairsOf p)
+
+  -- .. as bytes: track and sector of each
+  unfoldable pub pairBytes : Place → Outcome (List ℕ)
+  pairBytes p = pairsAt p >>= λ ps. given (flatMap placeBytes ps)

@@ -3,8 +3,9 @@ ghost use mathlib.Core.Path.{_≡_};
 ghost use Prim.Native.Nat.{ℕ, _+_, _-_, _*_, _<_, _≤_};
 ghost use mathlib.Core.Bool.{cond};
 ghost use lib.Dec.{eqb};
+ghost use Rattle.outcome.specs.Outcome.{Hands};
 ghost use Rattle.disk.specs.Disk.{place, byteOf, bytesOf};
-ghost use Rattle.files.specs.Contents.{pairAt, pairsOf, wholeLink, listWalk};
+ghost use Rattle.files.specs.Contents.{pairAt, pairsOf, wholeLink, listWalk, pairBytes};
 ghost use lib.ListN.{take};
 ghost use Rattle.lists.specs.Same.{same};
 ghost use Rattle.files.specs.Totals.{choice, noChoice, noneYet, noTotals, totaled, walkTotals, totals, withLink, Within, Bounded, Joined, Entered, Added, Linked, Ranged, Paged};
@@ -35,8 +36,13 @@ use lists::part;
 use lists::same;
 use outcome::BAD_LETTER;
 use outcome::CUT_LINK;
+use outcome::Handed;
 use outcome::OFF_DISC;
+use outcome::OFF_SIZE;
 use outcome::RING;
+use outcome::TRAY_SHORT;
+use outcome::accepted;
+use outcome::refused;
 
 // The pairs of one list: how many, and whether all are on the disk.
 pub struct PairRun {
@@ -560,4 +566,27 @@ fn copy_pairs(disk: &[u8], per: u8, p: Place, out: &mut [u8], size: usize, first
         i += 1;
     }
     s
+}
+
+// The pairs of the list at a location, two bytes each: track, sector; refusals 1, 3, 12. The pairs are not followed.
+pub fn track_sector_pairs(disk: &[u8], track: Track, sector: Sector, out: &mut [u8]) -> Handed
+    ensures { λ r. ⌜ Hands (pairBytes 16 (now (disk .entry)) (place (track .0) (sector .0))) (now (out .entry)) (now (out .exit)) r ⌝ }
+{
+    let p = Place {
+        track: track,
+        sector: sector,
+    };
+    if disk.len() != 143360 {
+        return refused(OFF_SIZE);
+    }
+    if !on_disk(16, p) {
+        return refused(OFF_DISC);
+    }
+    let run = parse_track_sector_list(disk, 16, p);
+    let size = 2 * (run.count as usize);
+    if out.len() < size {
+        return refused(TRAY_SHORT);
+    }
+    copy_at(part(disk, sector_start(16, p) + 12, size), out, 0);
+    accepted(size)
 }
