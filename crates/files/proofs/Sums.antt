@@ -46,7 +46,7 @@ sum-append (x ∷ a) b = rw (sum-append a b) (omega arith)
 -- ---- a file's size
 module _ (n : ℕ) (d : List ℕ) (sized : length d ≡ 256 * sectors n) where
   -- the stated length stands in the first sector
-  stated : (p : Place) (ps : List Place) → length (bytesOf n d p) ≡ 256 → wordAt (flatMap (bytesOf n d) (p ∷ ps)) 2 ≡ wordOf n d p 2
+  pub stated : (p : Place) (ps : List Place) → length (bytesOf n d p) ≡ 256 → wordAt (flatMap (bytesOf n d) (p ∷ ps)) 2 ≡ wordOf n d p 2
   unfolding flatMap bytesOf
   stated p ps e =
       let l : (k : ℕ) → k < 256 → getD (take 256 (drop (start n p) d) ++ flatMap (bytesOf n d) ps) k 0 ≡ getD d (start n p + k) 0 =
@@ -54,7 +54,7 @@ module _ (n : ℕ) (d : List ℕ) (sized : length d ≡ 256 * sectors n) where
       rw (l 2 (omega arith), l 3 (omega arith)) refl
 
   -- the first is a whole sector
-  first : (p : Place) (ps : List Place) → all (onDisk n) (p ∷ ps) ≡ true → length (bytesOf n d p) ≡ 256
+  pub first : (p : Place) (ps : List Place) → all (onDisk n) (p ∷ ps) ≡ true → length (bytesOf n d p) ≡ 256
   unfolding all
   first p ps h = length-sector n d p sized (both-true (onDisk n p) _ h .0)
 

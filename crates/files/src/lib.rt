@@ -10,7 +10,7 @@ ghost use lib.ListN.{take};
 ghost use Rattle.lists.specs.Same.{same};
 ghost use Rattle.files.specs.Totals.{choice, noChoice, noneYet, noTotals, totaled, walkTotals, totals, withLink, Within, Bounded, Joined, Entered, Added, Linked, Ranged, Paged};
 ghost use Rattle.files.specs.Survey.{survey, noSurvey, surveyed};
-ghost use Rattle.files.specs.Copies.{Copied, Roomy, listBytes};
+ghost use Rattle.files.specs.Copies.{Copied, Roomy, Whole, CopiedAll, FileAt, listBytes, walkBytes, fileBytes, startOf};
 ghost use Rattle.files.specs.Threads.{headOf, noThread, endThread, runOf, followed, sizeOf};
 use catalog::FileEntry;
 use catalog::Name;
@@ -588,5 +588,55 @@ pub fn track_sector_pairs(disk: &[u8], track: Track, sector: Sector, out: &mut [
         return refused(TRAY_SHORT);
     }
     copy_at(part(disk, sector_start(16, p) + 12, size), out, 0);
+    accepted(size)
+}
+
+// Copies what is wanted of the sectors of all lists from `first` on, where these were followed before.
+fn copy_lists(disk: &[u8], per: u8, first: Place, out: &mut [u8], size: usize, start: Spot)
+    requires { ⌜ Roomy size start (now out) × Whole (walkBytes per (now disk) first) ⌝ }
+    ensures { λ _. ⌜ CopiedAll size (walkBytes per (now (disk .entry)) first) start (now (out .entry)) (now (out .exit)) ⌝ }
+{
+    let most = chain_budget(per);
+    let mut p = first;
+    let mut k: u16 = 0;
+    let mut s = start;
+    while k < most {
+        s = copy_pairs(disk, per, p, out, size, s);
+        if last_list(disk, per, p) {
+            return;
+        }
+        p = link_of(disk, per, p);
+        k += 1;
+    }
+}
+
+// Where a file's bytes begin in its joined sectors: behind address and length, where the stated length fits.
+fn file_start(disk: &[u8], per: u8, kind: u8, t: Thread) -> usize
+    ensures { λ r. ⌜ r ≡ startOf per (now (disk .entry)) kind t ⌝ }
+{
+    if kind != 4 {
+        return 0;
+    }
+    let head = t.head;
+    let low = byte_of(disk, per, head, 2) as u64;
+    let high = byte_of(disk, per, head, 3) as u64;
+    if 4 + (low + 256 * high) <= 256 * (t.pairs as u64) {
+        return 4;
+    }
+    0
+}
+
+// The bytes of a file by its first list and its type, its lists and pairs having been followed; refusal 12.
+fn get_data(disk: &[u8], per: u8, list: Place, kind: u8, out: &mut [u8]) -> Handed
+    requires { ⌜ FileAt per (now disk) list ⌝ }
+    ensures { λ r. ⌜ Hands (fileBytes per (now (disk .entry)) list kind) (now (out .entry)) (now (out .exit)) r ⌝ }
+{
+    let h = build_file(disk, per, list);
+    let size = file_size(disk, per, kind, h) as usize;
+    if out.len() < size {
+        return refused(TRAY_SHORT);
+    }
+    let skip = file_start(disk, per, kind, h);
+    copy_lists(disk, per, list, out, size, Spot { at: 0, skip: skip });
     accepted(size)
 }
