@@ -38,6 +38,7 @@ module _ (n : ℕ) (d : List ℕ) (b : Bool) (j : ℕ) (x : List ℕ) where
     pub pages : pages n d ≡ given ps
     pub catalog : catalog n d ≡ given es
     pub lists : each (lists n d) es ≡ given ls
+    pub files : each (fileOf n d) es ≡ given (c .files)
     pub volume : c .volume ≡ byteOf n d vtoc 6
     pub is : t ≡ sums.plus n d b j x noneYet (length ps) es (c .files) ls
 
@@ -57,6 +58,7 @@ module _ (n : ℕ) (d : List ℕ) (b : Bool) (j : ℕ) (x : List ℕ) where
         pages = p .1;
         catalog = g .1;
         lists = ap (each (lists n d)) (p .2) ∙ t .1;
+        files = g .2;
         volume = g .3;
         is = rw (p .1) (t .2 ∙ sym (ap (λ (y : List Entry). sums.plus n d b j x noneYet (length (p .0)) y (c .files) (t .0)) (p .2)));
       }

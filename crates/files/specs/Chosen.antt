@@ -1,7 +1,10 @@
--- The entry that was asked for, among all: document 01, "Thread" and "Load" by entry number, and bytes by name (the last entry of that name).
-use mathlib.Core.Bool.{Bool}
+-- The entry that was asked for, among all, and its bytes by its number: document 01, "Thread" and "Load" by entry number, and bytes by name (the last entry of that name).
+use mathlib.Core.Bool.{Bool, cond}
 use mathlib.Core.List.{List, [], _∷_}
 use Prim.Native.Nat.{ℕ, _+_}
+use lib.Dec.{eqb}
+use Rattle.outcome.specs.Outcome.{Outcome, given, _>>=_}
+use Rattle.files.specs.Contents.{File, contents}
 use Rattle.catalog.specs.Catalog.{Entry}
 use Rattle.files.specs.declared.Choice.{Choice}
 use Rattle.files.specs.Totals.{chosen}
@@ -11,3 +14,12 @@ module _ (n : ℕ) (d : List ℕ) (byName : Bool) (k : ℕ) (x : List ℕ) where
   unfoldable pub chosenIn : Choice → ℕ → List Entry → Choice
   chosenIn c j [] = c
   chosenIn c j (e ∷ es) = chosenIn (chosen n d byName k x c j e) (j + 1) es
+
+-- the bytes of file number k, of files of which the first has the number j; none past the last
+unfoldable pub numbered : ℕ → ℕ → List File → List ℕ
+numbered k j [] = []
+numbered k j (f ∷ fs) = let rest = numbered k (j + 1) fs in cond (eqb j k) (f .bytes) rest
+
+-- the bytes of an entry by its number, from 0: 1 to 6
+unfoldable pub fileOfNumber : ℕ → List ℕ → ℕ → Outcome (List ℕ)
+fileOfNumber n d k = contents n d >>= λ c. given (numbered k 0 (c .files))

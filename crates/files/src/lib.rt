@@ -9,8 +9,9 @@ ghost use Rattle.files.specs.Contents.{pairAt, pairsOf, wholeLink, listW
 ghost use lib.ListN.{take};
 ghost use Rattle.lists.specs.Same.{same};
 ghost use Rattle.files.specs.Totals.{choice, noChoice, noneYet, noTotals, totaled, walkTotals, totals, withLink, Within, Bounded, Joined, Entered, Added, Linked, Ranged, Paged};
-ghost use Rattle.files.specs.Survey.{survey, noSurvey, surveyed};
+ghost use Rattle.files.specs.Survey.{survey, noSurvey, surveyed, fetched};
 ghost use Rattle.files.specs.Copies.{Copied, Roomy, Whole, CopiedAll, FileAt, listBytes, walkBytes, fileBytes, startOf};
+ghost use Rattle.files.specs.Chosen.{fileOfNumber};
 ghost use Rattle.files.specs.Threads.{headOf, noThread, endThread, runOf, followed, sizeOf};
 use catalog::FileEntry;
 use catalog::Name;
@@ -37,6 +38,7 @@ use lists::same;
 use outcome::BAD_LETTER;
 use outcome::CUT_LINK;
 use outcome::Handed;
+use outcome::NOT_ON_ROLL;
 use outcome::OFF_DISC;
 use outcome::OFF_SIZE;
 use outcome::RING;
@@ -639,4 +641,34 @@ fn get_data(disk: &[u8], per: u8, list: Place, kind: u8, out: &mut [u8]) -> Hand
     let skip = file_start(disk, per, kind, h);
     copy_lists(disk, per, list, out, size, Spot { at: 0, skip: skip });
     accepted(size)
+}
+
+// The bytes of entry number `number`, from 0; none past the last. Refusals 1 to 6, 12.
+pub fn file(disk: &[u8], number: u64, out: &mut [u8]) -> Handed
+    ensures { λ r. ⌜ Hands (fileOfNumber 16 (now (disk .entry)) number) (now (out .entry)) (now (out .exit)) r ⌝ }
+{
+    let t = go_through(disk, false, number, b"");
+    if t.refusal != 0 {
+        return refused(t.refusal);
+    }
+    let c = t.choice;
+    if !c.found {
+        return accepted(0);
+    }
+    get_data(disk, 16, c.list, c.kind, out)
+}
+
+// The bytes of the last entry whose shown name is `name`. Refusals 1 to 6, 18, 12.
+pub fn fetch(disk: &[u8], name: &[u8], out: &mut [u8]) -> Handed
+    ensures { λ r. ⌜ Hands (fetched 16 (now (disk .entry)) (now (name .entry))) (now (out .entry)) (now (out .exit)) r ⌝ }
+{
+    let t = go_through(disk, true, 0, name);
+    if t.refusal != 0 {
+        return refused(t.refusal);
+    }
+    let c = t.choice;
+    if !c.found {
+        return refused(NOT_ON_ROLL);
+    }
+    get_data(disk, 16, c.list, c.kind, out)
 }

@@ -1,0 +1,203 @@
+-- The entry that a pass chose is the one asked for, and its bytes are handed over. Assumes nothing.
+use mathlib.Core.Path.{_≡_, refl, sym, ap, subst, _∙_}
+use mathlib.Core.Logic.{_⊎_, inl, inr, ⊎-elim}
+use mathlib.Core.Bool.{Bool, true, false, cond}
+use mathlib.Core.List.{List, [], _∷_, _++_, flatMap}
+use Prim.Native.Nat.{ℕ, _+_, _*_, _<_, _≤_}
+use native.Mathlib.Omega.{arith}
+use lib.ListN.{length, drop}
+use lib.Dec.{eqb}
+use borrow.Author.Tests.{eq-eqb, ne-eqb, eqb-true, eqb-false, not-true, not-false}
+use borrow.Author.Needs.{needs}
+use Rattle.lists.specs.Same.{same}
+use Rattle.lists.proofs.Split.{by-test, clash}
+use Rattle.outcome.specs.declared.Handed.{Handed}
+use Rattle.outcome.specs.declared.Refusal.the-variants.{NotOnRoll}
+use Rattle.outcome.specs.declared.Refusal.{Refusal}
+use Rattle.outcome.specs.Refusal.{code}
+use Rattle.outcome.specs.Outcome.{Outcome, refused, given, _>>=_, each, refusedWith, acceptedWith, Hands}
+use Rattle.outcome.proofs.Outcome.{each-cons, hands-refused, hands-over}
+use Rattle.disk.specs.declared.Place.{Place}
+use Rattle.disk.specs.Disk.{bytesOf}
+use Rattle.catalog.specs.Catalog.{Entry, shown, catalog}
+use Rattle.files.specs.declared.Choice.{Choice}
+use Rattle.files.specs.declared.Totals.{Totals}
+use Rattle.files.specs.Contents.{File, Contents, contents, bytesIn, pairsOf, listWalk, lists, fileOf}
+use Rattle.files.specs.Survey.{lastNamed, fetched}
+use Rattle.files.specs.Totals.{choice, noChoice, totaled, chosen, totals}
+use Rattle.files.specs.Chosen.{chosenIn, numbered, fileOfNumber}
+use Rattle.files.specs.Copies.{FileAt, fileBytes}
+use Rattle.files.proofs.Order.{file-given}
+use Rattle.files.proofs.Proper.{catalog-size}
+use Rattle.files.proofs.Calls.{Found, total-refused, total-given}
+
+module _ (n : ℕ) (d : List ℕ) (x : List ℕ) where
+  -- the chosen entry e with its file f
+  abbrev Chosen : Choice → (File → Type 0) → Type 0
+  Chosen c P = (e : Entry) × (f : File) × (fileOf n d e ≡ given f) × (c ≡ choice (e .list) (e .kind)) × P f
+
+  -- ---- by number
+  module _ (k : ℕ) where
+    -- behind it no other is
+    num-past : (es : List Entry) (c : Choice) (j : ℕ) → k < j → chosenIn n d false k x c j es ≡ c
+    unfolding chosenIn
+    num-past [] c j h = refl
+    num-past (e ∷ es) c j h = rw (ne-eqb j k (λ q. omega arith)) (num-past es c (j + 1) (omega arith))
+
+    num : (es : List Entry) (fs : List File) (c : Choice) (j : ℕ) → each (fileOf n d) es ≡ given fs
+        → ((chosenIn n d false k x c j es ≡ c) × (numbered k j fs ≡ []))
+        ⊎ Chosen (chosenIn n d false k x c j es) (λ f. numbered k j fs ≡ f .bytes)
+    unfolding chosenIn numbered each
+    num [] fs c j h = let q : fs ≡ [] = cc in inl (refl, rw q refl)
+    num (e ∷ es) fs c j h =
+        let w = each-cons (fileOf n d) e es fs h in
+        by-test (eqb j k)
+        (λ b. let q = eqb-true j k b in inr (e, w .0, w .2, rw b (num-past es (choice (e .list) (e .kind)) (j + 1) (omega arith)), ap (numbered k j) (w .4) ∙ rw b refl))
+        (λ b.
+        ⊎-elim (λ i. inl (rw b (i .0), ap (numbered k j) (w .4) ∙ rw b (i .1))) (λ i. inr (i .0, i .1, i .2, rw b (i .3), ap (numbered k j) (w .4) ∙ rw b (i .4)))
+        (num es (w .1) c (j + 1) (w .3)))
+
+  -- ---- by name
+  named-here : (f : File) (fs : List File) → lastNamed x fs ≡ refused NotOnRoll → same x (f .name) ≡ true → lastNamed x (f ∷ fs) ≡ given (f .bytes)
+  unfolding lastNamed
+  named-here f fs h b = rw (h, b) refl
+
+  named-not : (f : File) (fs : List File) → lastNamed x fs ≡ refused NotOnRoll → same x (f .name) ≡ false → lastNamed x (f ∷ fs) ≡ refused NotOnRoll
+  unfolding lastNamed
+  named-not f fs h b = rw (h, b) refl
+
+  named-on : (f : File) (fs : List File) (w : List ℕ) → lastNamed x fs ≡ given w → lastNamed x (f ∷ fs) ≡ given w
+  unfolding lastNamed
+  named-on f fs w h = rw h refl
+
+  nam : (k : ℕ) (es : List Entry) (fs : List File) (c : Choice) (j : ℕ) → each (fileOf n d) es ≡ given fs
+      → ((chosenIn n d true k x c j es ≡ c) × (lastNamed x fs ≡ refused NotOnRoll))
+      ⊎ Chosen (chosenIn n d true k x c j es) (λ f. lastNamed x fs ≡ given (f .bytes))
+  unfolding chosenIn lastNamed each
+  nam k [] fs c j h = let q : fs ≡ [] = cc in inl (refl, rw q refl)
+  nam k (e ∷ es) fs c j h =
+      let w = each-cons (fileOf n d) e es fs h in
+      let f : File = w .0 in
+      let m : f .name ≡ shown (e .raw) = ap (λ (y : File). y .name) (file-given n d e f (w .2) .3) in
+      ⊎-elim
+      (λ i.
+      by-test (same x (shown (e .raw)))
+      (λ b. inr (e, f, w .2, rw b (rw b at (i .0)), ap (lastNamed x) (w .4) ∙ named-here f (w .1) (i .1) (rw m b)))
+      (λ b. inl (rw b (rw b at (i .0)), ap (lastNamed x) (w .4) ∙ named-not f (w .1) (i .1) (rw m b))))
+      (λ i. inr (i .0, i .1, i .2, i .3, ap (lastNamed x) (w .4) ∙ named-on f (w .1) (i .1 .bytes) (i .4)))
+      (nam k es (w .1) (cond (same x (shown (e .raw))) (choice (e .list) (e .kind)) c) (j + 1) (w .3))
+
+-- ---- the bytes of the chosen entry
+module _ (d : List ℕ) (es : List Entry) (g : catalog 16 d ≡ given es) (e : Entry) (f : File) (h : fileOf 16 d e ≡ given f) (c : Choice) (q : c ≡ choice (e .list) (e .kind)) where
+  pub chosen-at : FileAt 16 d (c .list)
+  chosen-at =
+      let t = file-given 16 d e f h in
+      rw q (record { ls = t .0; is = t .1; on = t .2; size = catalog-size 16 d es g })
+
+  chosen-bytes : fileBytes 16 d (c .list) (c .kind) ≡ given (f .bytes)
+  unfolding fileBytes
+  chosen-bytes =
+      let t = file-given 16 d e f h in
+      rw q (rw (t .1) (ap given (sym (ap (λ (y : File). y .bytes) (t .3)))))
+
+-- ---- the calls: t are the totals, and W is what is handed over; `none` where no entry is asked for
+module _ (d : List ℕ) (b : Bool) (k : ℕ) (x : List ℕ) (t : Totals) (u : t ≡ totaled (totals 16 d b k x)) (W none : Outcome (List ℕ)) where
+  abbrev Which : Type 0
+  Which =
+      ((t .choice ≡ noChoice) × (W ≡ none))
+      ⊎ ((e : Entry) × (f : File) × (fileOf 16 d e ≡ given f) × (t .choice ≡ choice (e .list) (e .kind)) × (W ≡ given (f .bytes)))
+
+  -- the choice among the entries
+  the-choice : (z : t .refusal ≡ 0) → t .choice ≡ chosenIn 16 d b k x noChoice 0 (total-given d b k x t u z .2 .es)
+  the-choice z = ap (λ (y : Totals). y .choice) (total-given d b k x t u z .2 .is)
+
+  none-is : t .choice .found ≡ false → Which → W ≡ none
+  none-is n (inl i) = i .1
+  none-is n (inr i) = absurd (clash (sym n ∙ ap (λ (y : Choice). y .found) (i .3)))
+
+  module _ (z : t .refusal ≡ 0) (y : t .choice .found ≡ true) where
+    at-is : Which → FileAt 16 d (t .choice .list)
+    at-is (inl i) = absurd (clash (sym (ap (λ (a : Choice). a .found) (i .0)) ∙ y))
+    at-is (inr i) = let v = total-given d b k x t u z in chosen-at d (v .2 .es) (v .2 .catalog) (i .0) (i .1) (i .2) (t .choice) (i .3)
+
+    bytes-are : Which → fileBytes 16 d (t .choice .list) (t .choice .kind) ≡ W
+    bytes-are (inl i) = absurd (clash (sym (ap (λ (a : Choice). a .found) (i .0)) ∙ y))
+    bytes-are (inr i) = let v = total-given d b k x t u z in chosen-bytes d (v .2 .es) (v .2 .catalog) (i .0) (i .1) (i .2) (t .choice) (i .3) ∙ sym (i .4)
+
+-- ---- by number
+module _ (d : List ℕ) (k : ℕ) (x : List ℕ) (t : Totals) (u : t ≡ totaled (totals 16 d false k x)) (o : List ℕ) where
+  number-bytes : (c : Contents) → contents 16 d ≡ given c → fileOfNumber 16 d k ≡ given (numbered k 0 (c .files))
+  unfolding fileOfNumber
+  number-bytes c h = rw h refl
+
+  which-file : t .refusal ≡ 0 → Which d false k x t u (fileOfNumber 16 d k) (given [])
+  which-file z = go (num 16 d x k (v .2 .es) (v .0 .files) noChoice 0 (v .2 .files))
+    where
+      v : (c : Contents) × (contents 16 d ≡ given c) × Found 16 d false k x c t
+      v = total-given d false k x t u z
+
+      go : ((chosenIn 16 d false k x noChoice 0 (v .2 .es) ≡ noChoice) × (numbered k 0 (v .0 .files) ≡ []))
+          ⊎ ((e : Entry) × (f : File) × (fileOf 16 d e ≡ given f) × (chosenIn 16 d false k x noChoice 0 (v .2 .es) ≡ choice (e .list) (e .kind)) × (numbered k 0 (v .0 .files) ≡ f .bytes))
+          → Which d false k x t u (fileOfNumber 16 d k) (given [])
+      go (inl i) = inl (the-choice d false k x t u (fileOfNumber 16 d k) (given []) z ∙ i .0, number-bytes (v .0) (v .1) ∙ ap given (i .1))
+      go (inr i) =
+          inr (i .0, i .1, i .2, the-choice d false k x t u (fileOfNumber 16 d k) (given []) z ∙ i .3, number-bytes (v .0) (v .1) ∙ ap given (i .4))
+
+  pub file-refused : (r : Handed) → (t .refusal ≡ 0 → ⊥) → r ≡ refusedWith (t .refusal) → Hands (fileOfNumber 16 d k) o o r
+  unfolding fileOfNumber
+  file-refused r h q =
+      let v = total-refused d false k x t u h in
+      hands-refused (fileOfNumber 16 d k) o (v .0) (rw (v .1) refl) r (q ∙ ap refusedWith (v .2))
+
+  module _ (z : t .refusal ≡ 0) where
+    pub file-none : (r : Handed) → t .choice .found ≡ false → r ≡ acceptedWith 0 → Hands (fileOfNumber 16 d k) o o r
+    file-none r n q =
+        hands-over (fileOfNumber 16 d k) o o [] (none-is d false k x t u (fileOfNumber 16 d k) (given []) n (which-file z)) (omega arith) refl r q
+
+    module _ (y : t .choice .found ≡ true) where
+      pub file-at : FileAt 16 d (t .choice .list)
+      file-at = at-is d false k x t u (fileOfNumber 16 d k) (given []) z y (which-file z)
+
+      pub file-done : (o′ : List ℕ) (r : Handed) → Hands (fileBytes 16 d (t .choice .list) (t .choice .kind)) o o′ r → Hands (fileOfNumber 16 d k) o o′ r
+      file-done o′ r h = subst (λ (w : Outcome (List ℕ)). Hands w o o′ r) (bytes-are d false k x t u (fileOfNumber 16 d k) (given []) z y (which-file z)) h
+
+pub ruleset fileCalls = (file-refused, file-none, file-at, file-done, not-true, not-false, needs)
+
+-- ---- by name
+module _ (d : List ℕ) (k : ℕ) (x : List ℕ) (t : Totals) (u : t ≡ totaled (totals 16 d true k x)) (o : List ℕ) where
+  name-bytes : (c : Contents) → contents 16 d ≡ given c → fetched 16 d x ≡ lastNamed x (c .files)
+  unfolding fetched
+  name-bytes c h = rw h refl
+
+  which-name : t .refusal ≡ 0 → Which d true k x t u (fetched 16 d x) (refused NotOnRoll)
+  which-name z = go (nam 16 d x k (v .2 .es) (v .0 .files) noChoice 0 (v .2 .files))
+    where
+      v : (c : Contents) × (contents 16 d ≡ given c) × Found 16 d true k x c t
+      v = total-given d true k x t u z
+
+      go : ((chosenIn 16 d true k x noChoice 0 (v .2 .es) ≡ noChoice) × (lastNamed x (v .0 .files) ≡ refused NotOnRoll))
+          ⊎ ((e : Entry) × (f : File) × (fileOf 16 d e ≡ given f) × (chosenIn 16 d true k x noChoice 0 (v .2 .es) ≡ choice (e .list) (e .kind)) × (lastNamed x (v .0 .files) ≡ given (f .bytes)))
+          → Which d true k x t u (fetched 16 d x) (refused NotOnRoll)
+      go (inl i) = inl (the-choice d true k x t u (fetched 16 d x) (refused NotOnRoll) z ∙ i .0, name-bytes (v .0) (v .1) ∙ i .1)
+      go (inr i) =
+          inr (i .0, i .1, i .2, the-choice d true k x t u (fetched 16 d x) (refused NotOnRoll) z ∙ i .3, name-bytes (v .0) (v .1) ∙ i .4)
+
+  pub fetch-refused : (r : Handed) → (t .refusal ≡ 0 → ⊥) → r ≡ refusedWith (t .refusal) → Hands (fetched 16 d x) o o r
+  unfolding fetched
+  fetch-refused r h q =
+      let v = total-refused d true k x t u h in
+      hands-refused (fetched 16 d x) o (v .0) (rw (v .1) refl) r (q ∙ ap refusedWith (v .2))
+
+  module _ (z : t .refusal ≡ 0) where
+    pub fetch-none : (r : Handed) → t .choice .found ≡ false → r ≡ refusedWith 18 → Hands (fetched 16 d x) o o r
+    fetch-none r n q =
+        hands-refused (fetched 16 d x) o NotOnRoll (none-is d true k x t u (fetched 16 d x) (refused NotOnRoll) n (which-name z)) r q
+
+    module _ (y : t .choice .found ≡ true) where
+      pub fetch-at : FileAt 16 d (t .choice .list)
+      fetch-at = at-is d true k x t u (fetched 16 d x) (refused NotOnRoll) z y (which-name z)
+
+      pub fetch-done : (o′ : List ℕ) (r : Handed) → Hands (fileBytes 16 d (t .choice .list) (t .choice .kind)) o o′ r → Hands (fetched 16 d x) o o′ r
+      fetch-done o′ r h = subst (λ (w : Outcome (List ℕ)). Hands w o o′ r) (bytes-are d true k x t u (fetched 16 d x) (refused NotOnRoll) z y (which-name z)) h
+
+pub ruleset fetchCalls = (fetch-refused, fetch-none, fetch-at, fetch-done, not-true, not-false, needs)
