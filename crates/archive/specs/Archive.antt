@@ -1,7 +1,7 @@
 -- Contents written down in chained blocks of 256 bytes (01: return). Document 01, "Return" under Records and under Modules.
 use mathlib.Core.Bool.{cond}
 use mathlib.Core.List.{List, [], _∷_, _++_}
-use Prim.Native.Nat.{ℕ, zero, suc, _+_, _/_}
+use Prim.Native.Nat.{ℕ, zero, suc, _+_}
 use lib.ListN.{length, take, drop}
 use lib.Dec.{leb, eqb}
 use Rattle.outcome.specs.declared.Refusal.the-variants.{Overlong, NotItsReturn}

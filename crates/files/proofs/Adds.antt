@@ -1,12 +1,12 @@
 -- The totals of a pass over the catalog: one entry more, one page more, and the pages. Assumes nothing.
 use mathlib.Core.Path.{_≡_, refl, sym, ap, _∙_}
-use mathlib.Core.Bool.{Bool, true, false, cond, not, _&&_, _||_}
-use mathlib.Core.List.{List, [], _∷_, _++_, flatMap, foldl}
+use mathlib.Core.Bool.{Bool, true, false, cond}
+use mathlib.Core.List.{List, _∷_, foldl}
 use Prim.Native.Nat.{ℕ, _+_, _*_, _/_, _^_, _<_, _≤_}
 use native.Mathlib.Omega.{arith}
 use lib.ListN.{length, getD, take, drop}
 use lib.Seq.{take-at}
-use lib.Dec.{eqb, leb}
+use lib.Dec.{eqb}
 use borrow.Author.Tests.{eq-eqb, ne-eqb, le-leb, lt-leb, not-true, not-false}
 use borrow.Author.Needs.{needs}
 use Rattle.lists.specs.Same.{same}
@@ -18,13 +18,13 @@ use Rattle.catalog.specs.declared.FileEntry.{FileEntry}
 use Rattle.catalog.specs.Catalog.{Entry, shown, validFile, live, entryFrom, entryAt, entriesOf}
 use Rattle.catalog.specs.Listing.{nameOf, fileEntry}
 use Rattle.disk.specs.declared.Place.{Place}
-use Rattle.disk.specs.Disk.{place, start, byteOf, wordOf}
+use Rattle.disk.specs.Disk.{place, start, byteOf}
 use Rattle.files.specs.declared.Thread.{Thread}
 use Rattle.files.specs.declared.Choice.{Choice}
 use Rattle.files.specs.declared.Totals.{Totals}
 use Rattle.files.specs.Threads.{followed, sizeOf}
 use Rattle.files.specs.Contents.{listWalk, lists}
-use Rattle.files.specs.Totals.{choice, noChoice, noTotals, withLink, Within, Bounded, Linked, withPage, Ranged, Paged, picked, chosen, withThread, withEntry, Joined, Entered, Added}
+use Rattle.files.specs.Totals.{choice, noChoice, noTotals, Within, Bounded, Linked, withPage, Ranged, Paged, picked, chosen, withThread, withEntry, Joined, Entered, Added}
 
 -- ---- a file's size
 module _ (n : ℕ) (d : List ℕ) (kind : ℕ) (t : Thread) where

@@ -2,27 +2,27 @@
 use mathlib.Core.Path.{_≡_, refl, sym, ap, _∙_}
 use mathlib.Core.Logic.{_⊎_, inl, inr, ⊎-elim}
 use mathlib.Core.Bool.{Bool}
-use mathlib.Core.List.{List, [], map, flatMap, foldl}
-use Prim.Native.Nat.{ℕ, _+_, _*_, _-_}
+use mathlib.Core.List.{List, map, flatMap}
+use Prim.Native.Nat.{ℕ, _+_, _-_}
 use native.Mathlib.Nat.{zero-add}
 use native.Mathlib.Omega.{arith}
 use lib.ListN.{length}
 use borrow.Author.Needs.{needs}
 use Rattle.outcome.specs.declared.Refusal.{Refusal}
 use Rattle.outcome.specs.Refusal.{code}
-use Rattle.outcome.specs.Outcome.{Outcome, refused, given, _>>=_, each}
+use Rattle.outcome.specs.Outcome.{Outcome, refused, given, each}
 use Rattle.outcome.proofs.Outcome.{code-pos, refuses, map-refuses}
 use Rattle.disk.specs.declared.Place.{Place}
 use Rattle.disk.specs.declared.VolumeTableOfContents.{VolumeTableOfContents}
 use Rattle.disk.specs.Disk.{byteOf, sectors}
-use Rattle.disk.specs.Vtoc.{vtoc, readable, tableOf, parsed, freeBelow, percent}
+use Rattle.disk.specs.Vtoc.{vtoc, tableOf, parsed, freeBelow, percent}
 use Rattle.catalog.specs.Catalog.{Entry, entriesOf, pages, catalog}
 use Rattle.catalog.proofs.Order.{pages-given, catalog-given, catalog-refused}
 use Rattle.files.specs.declared.Totals.{Totals}
 use Rattle.files.specs.declared.DiskSurvey.{DiskSurvey}
-use Rattle.files.specs.Contents.{File, Contents, contents, lists, fileOf}
+use Rattle.files.specs.Contents.{Contents, contents, lists, fileOf}
 use Rattle.files.specs.Survey.{blocksIn, sumOf, survey, noSurvey, surveyed}
-use Rattle.files.specs.Totals.{noneYet, noTotals, totaled, withPage, totals}
+use Rattle.files.specs.Totals.{noneYet, noTotals, totaled, totals}
 use Rattle.files.proofs.Order.{contents-given}
 use Rattle.files.proofs.Proper.{catalog-size}
 use Rattle.files.proofs.Surveys.{contents-refuse, survey-is}

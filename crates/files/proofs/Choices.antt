@@ -2,29 +2,24 @@
 use mathlib.Core.Path.{_≡_, refl, sym, ap, subst, _∙_}
 use mathlib.Core.Logic.{_⊎_, inl, inr, ⊎-elim}
 use mathlib.Core.Bool.{Bool, true, false, cond}
-use mathlib.Core.List.{List, [], _∷_, _++_, flatMap}
-use Prim.Native.Nat.{ℕ, _+_, _*_, _<_, _≤_}
+use mathlib.Core.List.{List, [], _∷_}
+use Prim.Native.Nat.{ℕ, _+_, _<_}
 use native.Mathlib.Omega.{arith}
-use lib.ListN.{length, drop}
 use lib.Dec.{eqb}
-use borrow.Author.Tests.{eq-eqb, ne-eqb, eqb-true, eqb-false, not-true, not-false}
+use borrow.Author.Tests.{ne-eqb, eqb-true, not-true, not-false}
 use borrow.Author.Needs.{needs}
 use Rattle.lists.specs.Same.{same}
 use Rattle.lists.proofs.Split.{by-test, clash}
 use Rattle.outcome.specs.declared.Handed.{Handed}
 use Rattle.outcome.specs.declared.Refusal.the-variants.{NotOnRoll}
-use Rattle.outcome.specs.declared.Refusal.{Refusal}
-use Rattle.outcome.specs.Refusal.{code}
-use Rattle.outcome.specs.Outcome.{Outcome, refused, given, _>>=_, each, refusedWith, acceptedWith, Hands}
+use Rattle.outcome.specs.Outcome.{Outcome, refused, given, each, refusedWith, acceptedWith, Hands}
 use Rattle.outcome.proofs.Outcome.{each-cons, hands-refused, hands-over}
-use Rattle.disk.specs.declared.Place.{Place}
-use Rattle.disk.specs.Disk.{bytesOf}
 use Rattle.catalog.specs.Catalog.{Entry, shown, catalog}
 use Rattle.files.specs.declared.Choice.{Choice}
 use Rattle.files.specs.declared.Totals.{Totals}
-use Rattle.files.specs.Contents.{File, Contents, contents, bytesIn, pairsOf, listWalk, lists, fileOf}
+use Rattle.files.specs.Contents.{File, Contents, contents, fileOf}
 use Rattle.files.specs.Survey.{lastNamed, fetched}
-use Rattle.files.specs.Totals.{choice, noChoice, totaled, chosen, totals}
+use Rattle.files.specs.Totals.{choice, noChoice, totaled, totals}
 use Rattle.files.specs.Chosen.{chosenIn, numbered, fileOfNumber}
 use Rattle.files.specs.Copies.{FileAt, fileBytes}
 use Rattle.files.proofs.Order.{file-given}
@@ -39,7 +34,7 @@ module _ (n : ℕ) (d : List ℕ) (x : List ℕ) where
   -- ---- by number
   module _ (k : ℕ) where
     -- behind it no other is
-    num-past : (es : List Entry) (c : Choice) (j : ℕ) → k < j → chosenIn n d false k x c j es ≡ c
+    pub num-past : (es : List Entry) (c : Choice) (j : ℕ) → k < j → chosenIn n d false k x c j es ≡ c
     unfolding chosenIn
     num-past [] c j h = refl
     num-past (e ∷ es) c j h = rw (ne-eqb j k (λ q. omega arith)) (num-past es c (j + 1) (omega arith))

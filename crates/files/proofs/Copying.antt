@@ -1,13 +1,12 @@
 -- Copying a part of joined sectors, sector by sector. Assumes nothing.
 use mathlib.Core.Path.{_≡_, refl, sym, ap, _∙_}
-use mathlib.Core.Bool.{Bool, true, false, cond}
 use mathlib.Core.List.{List, [], _∷_, _++_, flatMap, append-nil, append-assoc}
-use Prim.Native.Nat.{ℕ, zero, suc, _+_, _-_, _*_, _<_, _≤_, min}
+use Prim.Native.Nat.{ℕ, zero, suc, _+_, _-_, _<_, _≤_}
 use native.Mathlib.Omega.{arith}
-use lib.ListN.{length, take, drop, length-append, length-take, length-drop, drop-of-length-le}
+use lib.ListN.{length, take, drop, length-append, length-take}
 use lib.Seq.{take-nil, drop-nil}
 use borrow.Author.Needs.{needs}
-use Rattle.lists.specs.Fill.{put, placed}
+use Rattle.lists.specs.Fill.{placed}
 use Rattle.lists.proofs.Chunks.{flatMap-append, flatMap-one}
 use Rattle.lists.proofs.Put.{Put, put-none, put-is, put-more, placed-put}
 use Rattle.disk.specs.declared.Place.{Place}

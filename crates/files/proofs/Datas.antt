@@ -4,7 +4,7 @@ use mathlib.Core.Bool.{Bool, true, false, cond}
 use mathlib.Core.List.{List, [], _∷_, _++_, flatMap}
 use Prim.Native.Nat.{ℕ, _+_, _-_, _*_, _<_, _≤_}
 use native.Mathlib.Omega.{arith}
-use lib.ListN.{length, take, drop}
+use lib.ListN.{length}
 use lib.Seq.{take-all, take-nil, drop-nil}
 use lib.Dec.{eqb, leb}
 use borrow.Author.Tests.{eq-eqb, ne-eqb, le-leb, lt-leb, eqb-true, eqb-false}
@@ -17,7 +17,7 @@ use Rattle.lists.proofs.Chunks.{flatMap-append, length-chunks}
 use Rattle.lists.proofs.Put.{Put, put-is, put-front}
 use Rattle.outcome.specs.declared.Handed.{Handed}
 use Rattle.outcome.specs.Outcome.{Outcome, refused, given, _>>=_, refusedWith, acceptedWith, Hands}
-use Rattle.outcome.proofs.Outcome.{refused-given, hands-short, hands-over}
+use Rattle.outcome.proofs.Outcome.{hands-short, hands-over}
 use Rattle.disk.specs.declared.Place.{Place}
 use Rattle.disk.specs.Disk.{place, sectors, onDisk, byteOf, wordOf, bytesOf, linkOf}
 use Rattle.disk.specs.Chain.{walk}
@@ -25,7 +25,7 @@ use Rattle.disk.proofs.Steps.{made, rest, joins, joined-is, rest-start, rest-wi
 use Rattle.files.specs.declared.Spot.{Spot}
 use Rattle.files.specs.declared.Thread.{Thread}
 use Rattle.files.specs.Contents.{bytesIn, pairsOf, soundList, nextList, listWalk}
-use Rattle.files.specs.Threads.{headOf, threadOf, followed, sizeOf}
+use Rattle.files.specs.Threads.{headOf, followed, sizeOf}
 use Rattle.files.specs.Copies.{cutOf, Copied, Roomy, Whole, CopiedAll, FileAt, listBytes, walkBytes, fileBytes, startOf}
 use Rattle.files.proofs.Proper.{all-long, bytesIn-binary}
 use Rattle.files.proofs.Sums.{stated, first, size-is}
@@ -164,7 +164,7 @@ module _ (n : ℕ) (d : List ℕ) (size : length d ≡ 256 * sectors n) where
 
 -- ---- the bytes of a file: h is what its lists come to
 module _ (n : ℕ) (d : List ℕ) (p : Place) (kind : ℕ) (f : FileAt n d p) (h : Thread) (u : h ≡ followed n d (listWalk n d p)) (o : List ℕ) where
-  thread : h ≡ record { refusal = 0; lists = length (f .ls); pairs = length (flatMap (pairsOf n d) (f .ls)); head = headOf (flatMap (pairsOf n d) (f .ls)) }
+  pub thread : h ≡ record { refusal = 0; lists = length (f .ls); pairs = length (flatMap (pairsOf n d) (f .ls)); head = headOf (flatMap (pairsOf n d) (f .ls)) }
   thread = u ∙ rw (f .is, f .on) refl
 
   -- the bytes are given

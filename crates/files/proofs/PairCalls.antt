@@ -1,7 +1,7 @@
 -- The pairs of a list stand in a row: they are handed over as a part of the disk. Assumes nothing.
 use mathlib.Core.Path.{_≡_, refl, sym, ap, _∙_}
 use mathlib.Core.Bool.{Bool, true, false}
-use mathlib.Core.List.{List, [], _∷_, _++_, flatMap}
+use mathlib.Core.List.{List, [], _∷_, flatMap}
 use Prim.Native.Nat.{ℕ, zero, suc, _+_, _*_, _<_, _≤_}
 use native.Mathlib.Omega.{arith}
 use lib.ListN.{length, getD, take, drop}
@@ -14,7 +14,7 @@ use Rattle.lists.proofs.Split.{by-test}
 use Rattle.lists.proofs.Put.{Put, placed-put, put-front}
 use Rattle.outcome.specs.declared.Handed.{Handed}
 use Rattle.outcome.specs.declared.Refusal.the-variants.{OffSize, OffDisc}
-use Rattle.outcome.specs.Outcome.{refused, given, refusedWith, acceptedWith, Hands}
+use Rattle.outcome.specs.Outcome.{given, refusedWith, acceptedWith, Hands}
 use Rattle.outcome.proofs.Outcome.{hands-refused, hands-short, hands-over}
 use Rattle.disk.specs.declared.Place.{Place}
 use Rattle.disk.specs.Disk.{start, onDisk, sized}
@@ -48,7 +48,7 @@ module _ (n : ℕ) (d : List ℕ) (p : Place) (fits : start n p + 256 ≤ length
   pairs-row = row 121 0 refl
 
 -- two bytes a pair
-length-two : (ps : List Place) → length (flatMap placeBytes ps) ≡ 2 * length ps
+pub length-two : (ps : List Place) → length (flatMap placeBytes ps) ≡ 2 * length ps
 unfolding flatMap
 length-two [] = refl
 length-two (p ∷ ps) = let i = length-two ps in omega arith

@@ -1,11 +1,11 @@
 -- The totals of a pass are those of the contents: entries, lists, archive blocks and the choice; and they refuse as the contents do. Assumes nothing.
 use mathlib.Core.Path.{_≡_, refl, sym, ap, _∙_}
 use mathlib.Core.Logic.{⊎-elim}
-use mathlib.Core.Bool.{Bool, true, false, cond}
+use mathlib.Core.Bool.{Bool, true, cond}
 use mathlib.Core.List.{List, [], _∷_, _++_, map, flatMap, foldl}
-use Prim.Native.Nat.{ℕ, zero, suc, _+_, _*_, _-_, _/_, _<_, _≤_}
+use Prim.Native.Nat.{ℕ, suc, _+_, _*_, _<_}
 use native.Mathlib.Omega.{arith}
-use lib.ListN.{length, getD, take, drop, length-append, length-take, length-drop, List·getD-append, List·getD-eq-default}
+use lib.ListN.{length, getD, take, drop, length-append, length-take, length-drop, List·getD-append}
 use lib.Seq.{getD-take, getD-drop}
 use lib.Dec.{eqb, leb}
 use borrow.Author.Tests.{eq-eqb, ne-eqb, eqb-true, eqb-false, leb-true, lt-leb}
@@ -15,7 +15,7 @@ use Rattle.lists.proofs.Split.{by-test, both-true}
 use Rattle.lists.proofs.Chunks.{length-chunks}
 use Rattle.outcome.specs.declared.Refusal.{Refusal}
 use Rattle.outcome.specs.Refusal.{code}
-use Rattle.outcome.specs.Outcome.{Outcome, refused, given, _>>=_, each}
+use Rattle.outcome.specs.Outcome.{refused, given, each}
 use Rattle.outcome.proofs.Outcome.{code-pos, gives, refuses, each-cons, each-on, each-append, map-refuses, refused-given}
 use Rattle.disk.specs.declared.Place.{Place}
 use Rattle.disk.specs.Disk.{place, start, sectors, onDisk, wordOf, bytesOf}
@@ -25,8 +25,8 @@ use Rattle.files.specs.declared.Choice.{Choice}
 use Rattle.files.specs.declared.Thread.{Thread}
 use Rattle.files.specs.declared.Totals.{Totals}
 use Rattle.files.specs.Contents.{File, bytesIn, pairsOf, lists, fileOf}
-use Rattle.files.specs.Threads.{headOf, noThread, threadOf, followed, sizeOf}
-use Rattle.files.specs.Survey.{blocksFor, dataBlocks, blocksIn, sumOf}
+use Rattle.files.specs.Threads.{headOf, noThread, followed, sizeOf}
+use Rattle.files.specs.Survey.{blocksFor, blocksIn, sumOf}
 use Rattle.files.specs.Totals.{noTotals, chosen, withThread, withEntry, withLink, withPage}
 use Rattle.files.specs.Chosen.{chosenIn}
 use Rattle.files.proofs.Order.{file-given, file-refused, fileWith}

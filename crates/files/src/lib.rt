@@ -3,7 +3,8 @@ ghost use mathlib.Core.Path.{_≡_};
 ghost use Prim.Native.Nat.{ℕ, _+_, _-_, _*_, _<_, _≤_};
 ghost use mathlib.Core.Bool.{cond};
 ghost use lib.Dec.{eqb};
-ghost use Rattle.outcome.specs.Outcome.{Hands};
+ghost use Rattle.outcome.specs.Outcome.{Hands, leftBy};
+ghost use Rattle.catalog.specs.Listing.{Ready};
 ghost use Rattle.disk.specs.Disk.{place, byteOf, bytesOf};
 ghost use Rattle.files.specs.Contents.{pairAt, pairsOf, wholeLink, listWalk, pairBytes};
 ghost use lib.ListN.{take};
@@ -11,7 +12,7 @@ ghost use Rattle.lists.specs.Same.{same};
 ghost use Rattle.files.specs.Totals.{choice, noChoice, noneYet, noTotals, totaled, walkTotals, totals, withLink, Within, Bounded, Joined, Entered, Added, Linked, Ranged, Paged};
 ghost use Rattle.files.specs.Survey.{survey, noSurvey, surveyed, fetched};
 ghost use Rattle.files.specs.Copies.{Copied, Roomy, Whole, CopiedAll, FileAt, listBytes, walkBytes, fileBytes, startOf};
-ghost use Rattle.files.specs.Chosen.{fileOfNumber};
+ghost use Rattle.files.specs.Chosen.{walkPlaces, fileOfNumber, listsOfNumber};
 ghost use Rattle.files.specs.Threads.{headOf, noThread, endThread, runOf, followed, sizeOf};
 use catalog::FileEntry;
 use catalog::Name;
@@ -671,4 +672,54 @@ pub fn fetch(disk: &[u8], name: &[u8], out: &mut [u8]) -> Handed
         return refused(NOT_ON_ROLL);
     }
     get_data(disk, 16, c.list, c.kind, out)
+}
+
+// Puts the places of the lists from `first` on into out, two bytes each, where these were followed and out has the space.
+fn write_lists(disk: &[u8], per: u8, first: Place, out: &mut [u8])
+    requires { ⌜ Ready (walkPlaces per (now disk) first) (now out) ⌝ }
+    ensures { λ _. ⌜ now (out .exit) ≡ leftBy (walkPlaces per (now (disk .entry)) first) (now (out .entry)) ⌝ }
+{
+    let most = chain_budget(per);
+    let mut p = first;
+    let mut k: u16 = 0;
+    let mut w: usize = 0;
+    while k < most {
+        let pair = [p.track.0, p.sector.0];
+        copy_at(&pair, out, w);
+        w += 2;
+        if last_list(disk, per, p) {
+            return;
+        }
+        p = link_of(disk, per, p);
+        k += 1;
+    }
+}
+
+// The places of the lists from a first list on, these having been followed; refusal 12.
+fn get_lists(disk: &[u8], per: u8, list: Place, out: &mut [u8]) -> Handed
+    requires { ⌜ FileAt per (now disk) list ⌝ }
+    ensures { λ r. ⌜ Hands (walkPlaces per (now (disk .entry)) list) (now (out .entry)) (now (out .exit)) r ⌝ }
+{
+    let h = build_file(disk, per, list);
+    let size = 2 * (h.lists as usize);
+    if out.len() < size {
+        return refused(TRAY_SHORT);
+    }
+    write_lists(disk, per, list, out);
+    accepted(size)
+}
+
+// The track/sector lists of entry number `number`, from 0, two bytes each: track, sector; none past the last. Refusals 1 to 6, 12.
+pub fn track_sector_lists(disk: &[u8], number: u64, out: &mut [u8]) -> Handed
+    ensures { λ r. ⌜ Hands (listsOfNumber 16 (now (disk .entry)) number) (now (out .entry)) (now (out .exit)) r ⌝ }
+{
+    let t = go_through(disk, false, number, b"");
+    if t.refusal != 0 {
+        return refused(t.refusal);
+    }
+    let c = t.choice;
+    if !c.found {
+        return accepted(0);
+    }
+    get_lists(disk, 16, c.list, out)
 }
