@@ -11,8 +11,8 @@ use Rattle.disk.specs.Vtoc.{percent}
 use Rattle.disk.specs.Window.{sectorIn}
 use Rattle.catalog.specs.Catalog.{shown}
 use Rattle.files.specs.Contents.{File, bytesIn}
-use Rattle.nibble.specs.Nibble.{encode}
-use Rattle.stream.specs.Stream.{of44, interleave}
+use Rattle.nibble.specs.Nibble.{of44, encode}
+use Rattle.stream.specs.Stream.{interleave}
 use Rattle.files.specs.Survey.{blocks}
 use Rattle.archive.specs.Archive.{archive}
 

@@ -1,5 +1,5 @@
 -- What fits is put in, and what does not leaves the space as it was. Assumes nothing.
-use mathlib.Core.Path.{_≡_, refl}
+use mathlib.Core.Path.{_≡_, refl, _∙_}
 use mathlib.Core.List.{List}
 use Prim.Native.Nat.{ℕ, _+_, _-_, _<_, _≤_}
 use native.Mathlib.Omega.{arith}
@@ -7,6 +7,7 @@ use lib.ListN.{length, replicate, length-replicate}
 use borrow.Author.Tests.{le-leb, lt-leb}
 use borrow.Author.Needs.{needs}
 use Rattle.lists.specs.Fill.{put, placed}
+use Rattle.lists.proofs.Put.{Put, put-is}
 
 module _ (at : ℕ) (x d : List ℕ) where
   pub placed-past : length d < at → d ≡ placed at x d
@@ -30,3 +31,8 @@ module _ (at n v : ℕ) (d : List ℕ) where
   filled-fits o h l = placed-fits at (replicate n v) d o h (rw length-replicate l)
 
 pub ruleset placing = (placed-past, placed-short, placed-fits, filled-short, filled-fits, needs)
+
+-- of what a call placed, where it fits
+pub placed-put : (at : ℕ) (x d o : List ℕ) → o ≡ placed at x d → at + length x ≤ length d → Put at x d o
+unfolding placed
+placed-put at x d o e l = put-is (e ∙ rw (le-leb (at + length x) (length d) l) refl) l

@@ -1,14 +1,14 @@
 -- `read`, `sum_with`, `values_with`, `put_bytes` and `decode_sector` over plain variables. Assumes nothing.
 use mathlib.Core.Path.{_≡_, refl, sym, ap, _∙_}
 use mathlib.Core.Bool.{Bool}
-use mathlib.Core.List.{List, _++_}
+use mathlib.Core.List.{List, [], _++_, append-nil}
 use Prim.Native.Nat.{ℕ, _+_, _-_, _*_, _/_, _%_, _≤_, _<_}
 use native.Mathlib.Omega.{arith}
 use borrow.Author.Needs.{needs}
 use borrow.Author.Tests.{lt-ltb, le-ltb, eq-eqb, ne-eqb}
 use lib.Bits.{bitXor, xor-comm}
 use lib.Dec.{eqb, eqb→eq}
-use lib.ListN.{length, set, getD, drop, replicate}
+use lib.ListN.{length, set, getD, drop, replicate, length-replicate, drop-of-length-le}
 use Rattle.lists.specs.Fill.{beforeOf, filled, padded, placed}
 use Rattle.lists.proofs.Laws.{Filling, fill-none, fill-step, fill-again, fill-self, fill-whole, before-next, getD-tab, length-padded, placed-zeros}
 use Rattle.lists.proofs.Table.{test-at}
@@ -171,6 +171,14 @@ short n v o h e z l q = hands-short (decoded n) o (decode n) (decoded-given n (s
 unpacked : (n v o₀ o : List ℕ) → v ≡ valuesOf n → o ≡ filled (byteFrom v) 256 o₀ → o ≡ decode n ++ drop 256 o₀
 unfolding decode filled
 unpacked n v o₀ o e f = f ∙ rw e refl
+
+-- the bytes in an array of their own
+pub data-is : (n v o₀ o : List ℕ) → v ≡ valuesOf n → o₀ ≡ replicate 256 0 → o ≡ filled (byteFrom v) 256 o₀ → o ≡ decode n
+data-is n v o₀ o e z f =
+    let l : drop 256 o₀ ≡ [] = drop-of-length-le o₀ {i = 256} (rw z (omega (arith, length-replicate {A = ℕ} 256 0))) in
+    unpacked n v o₀ o e f ∙ rw l (append-nil (decode n))
+
+pub ruleset unpacks = (data-is, needs)
 
 pub done : (n v o₀ o : List ℕ) (h : Handed) → v ≡ valuesOf n → getD v 342 0 ≡ 0 → 256 ≤ length o₀ → o ≡ filled (byteFrom v) 256 o₀
     → h ≡ acceptedWith 256 → Hands (decoded n) o₀ o h

@@ -4,7 +4,7 @@ use mathlib.Core.Bool.{Bool}
 use mathlib.Core.List.{List, [], _∷_, _++_}
 use Prim.Native.Nat.{ℕ, zero, suc, _+_, _-_, _*_, _/_, _%_, _<_}
 use native.Mathlib.Omega.{arith}
-use borrow.Author.Tests.{lt-ltb, le-ltb, eq-eqb}
+use borrow.Author.Tests.{lt-ltb, le-ltb, eq-eqb, ne-eqb}
 use lib.Bits.{bitXor, xor-lt}
 use lib.Dec.{ltb, eqb, eqb→eq}
 use lib.ListN.{length, getD, List·getD-eq-default}
@@ -23,6 +23,17 @@ right k x = eqb (readOf x) k
 pub read-write : (v : ℕ) → v < 64 → readOf (writeOf v) ≡ v
 unfolding writes writeOf placeIn readOf right
 read-write v h = eqb→eq (readOf (writeOf v)) v (test-at right writes tt v h)
+
+-- what is at no place of a list
+place-none : (b i : ℕ) (xs : List ℕ) → ((k : ℕ) → k < length xs → b ≡ getD xs k 0 → ⊥) → placeIn b i xs ≡ 0
+unfolding placeIn
+place-none b i [] h = refl
+place-none b i (x ∷ xs) h = rw (ne-eqb b x (h zero (omega arith))) (place-none b (suc i) xs (λ k l. h (suc k) (omega arith)))
+
+-- a byte outside the write table reads as 0
+pub read-other : (b : ℕ) → ((v : ℕ) → v < 64 → b ≡ writeOf v → ⊥) → readOf b ≡ 0
+unfolding writes writeOf readOf
+read-other b h = place-none b 0 writes h
 
 -- ---- the two bits, and where they stand in a value
 low-low : (x : ℕ) → x / 4 * 4 + low (low x) ≡ x

@@ -1,16 +1,26 @@
--- The 6-and-2 coding of a sector: document 01, "Nibbles" under Modules. A sector's 256 bytes are 342 values of six bits; each is written as a
+-- The 4-and-4 coding of a byte and the 6-and-2 coding of a sector: document 01, "Nibbles" under Modules. A sector's 256 bytes are 342 values of six bits; each is written as a
 -- nibble of its XOR with the value before it, and the last value again is the sum.
 use mathlib.Core.Path.{_≡_}
 use mathlib.Core.Bool.{cond}
 use mathlib.Core.List.{List, [], _∷_}
 use Prim.Native.Nat.{ℕ, zero, suc, _+_, _-_, _*_, _/_, _%_, _<_}
-use lib.Bits.{bitXor}
+use lib.Bits.{bitXor, bitAnd, bitOr}
 use lib.Dec.{ltb, eqb}
 use lib.ListN.{length, getD}
 use Rattle.lists.specs.Fill.{tab, beforeOf}
 use Rattle.outcome.specs.declared.Refusal.the-variants.{OffSize, DataSum}
 use Rattle.outcome.specs.Outcome.{Outcome, given, _>>_, require}
 
+-- ---- 4-and-4
+-- the byte of the two bytes a and b
+abbrev pub of44 : ℕ → ℕ → ℕ
+of44 a b = bitAnd ((2 * a + 1) % 256) b
+
+-- a byte as it is written, in two
+abbrev pub four : ℕ → List ℕ
+four v = bitOr (v / 2) 0xAA ∷ bitOr v 0xAA ∷ []
+
+-- ---- the tables of 6-and-2
 -- the write table: the nibble of each value (`NIBBLE_WRITE_TABLE_6_AND_2`)
 unfoldable pub writes : List ℕ
 writes = 0x96 ∷ 0x97 ∷ 0x9a ∷ 0x9b ∷ 0x9d ∷ 0x9e ∷ 0x9f ∷ 0xa6 ∷ 0xa7 ∷ 0xab ∷ 0xac ∷ 0xad ∷ 0xae ∷ 0xaf ∷ 0xb2 ∷ 0xb3 ∷ 0xb4 ∷ 0xb5 ∷ 0xb6 ∷ 0xb7 ∷ 0xb9 ∷ 0xba ∷ 0xbb ∷ 0xbc ∷ 0xbd ∷ 0xbe ∷ 0xbf ∷ 0xcb ∷ 0xcd ∷ 0xce ∷ 0xcf ∷ 0xd3 ∷ 0xd6 ∷ 0xd7 ∷ 0xd9 ∷ 0xda ∷ 0xdb ∷ 0xdc ∷ 0xdd ∷ 0xde ∷ 0xdf ∷ 0xe5 ∷ 0xe6 ∷ 0xe7 ∷ 0xe9 ∷ 0xea ∷ 0xeb ∷ 0xec ∷ 0xed ∷ 0xee ∷ 0xef ∷ 0xf2 ∷ 0xf3 ∷ 0xf4 ∷ 0xf5 ∷ 0xf6 ∷ 0xf7 ∷ 0xf9 ∷ 0xfa ∷ 0xfb ∷ 0xfc ∷ 0xfd ∷ 0xfe ∷ 0xff ∷ []

@@ -1,4 +1,4 @@
-// The 6-and-2 coding of Apple DOS 3.3 (nibble.rs): 256 bytes to 343 nibbles and back.
+// The 4-and-4 and 6-and-2 codings of Apple DOS 3.3 (nibble.rs): a byte to two bytes, 256 bytes to 343 nibbles, and back.
 mod tables;
 
 ghost use mathlib.Core.Path.{_≡_};
@@ -7,7 +7,7 @@ ghost use lib.Bits.{bitAnd};
 ghost use lib.ListN.{length};
 ghost use Rattle.lists.specs.Fill.{filled, padded};
 ghost use Rattle.outcome.specs.Outcome.{Hands};
-ghost use Rattle.nibble.specs.Nibble.{writes, reads, writeOf, readOf, low, valAt, valuesOf, byteFrom, encoded, decoded, LowsOf, StepsOf};
+ghost use Rattle.nibble.specs.Nibble.{of44, four, writes, reads, writeOf, readOf, low, valAt, valuesOf, byteFrom, encoded, decode, decoded, LowsOf, StepsOf};
 use lists::copy_at;
 use outcome::DATA_SUM;
 use outcome::Handed;
@@ -17,6 +17,20 @@ use outcome::accepted;
 use outcome::refused;
 use tables::reading;
 use tables::writing;
+
+// The byte of two bytes in 4-and-4.
+pub fn parse_nibble_byte_4_and_4(a: u8, b: u8) -> u8
+    ensures { λ r. ⌜ r ≡ of44 a b ⌝ }
+{
+    (2 * (a % 128) + 1) & b
+}
+
+// A byte in 4-and-4.
+pub fn build_nibble_byte_4_and_4(v: u8) -> [u8; 2]
+    ensures { λ r. ⌜ r ≡ four v ⌝ }
+{
+    [v / 2 | 0xAA, v | 0xAA]
+}
 
 // The nibble of a step, from the table that the caller holds.
 fn write(table: &[u8; 64], v: u8) -> u8
@@ -215,6 +229,16 @@ fn put_bytes(vals: &[u8; 343], out: &mut [u8])
         out[i] = byte(vals[i + 86], vals[i - 172] / 16);
         i += 1;
     }
+}
+
+// The 256 bytes of a sector, whatever the sum is. Past the end of the slice zeros are read.
+pub fn sector_data(nibbles: &[u8]) -> [u8; 256]
+    ensures { λ r. ⌜ r ≡ decode (now (nibbles .entry)) ⌝ }
+{
+    let vals = values_of(nibbles);
+    let mut data = [0u8; 256];
+    put_bytes(&vals, &mut data);
+    data
 }
 
 // The 256 bytes of a sector (in the Rust transform_data_field); refusals 9, 12. Past the end of the slice zeros are read.

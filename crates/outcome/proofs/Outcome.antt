@@ -271,3 +271,8 @@ each-also f g h (x ∷ xs) ys e =
     let z = h x (t .0) (t .2) in
     let zs = each-also f g h xs (t .1) (t .3) in
     (z .0 ∷ zs .0, rw (z .1, zs .1) refl)
+
+-- a refusal that another call found, by its number
+pub hands-number : (o : Outcome (List ℕ)) (out : List ℕ) (n : ℕ) → n ≡ number o → (h : Handed) → (n ≡ 0 → ⊥) → h ≡ refusedWith n → Hands o out out h
+hands-number (refused r) out n e h z q = hands-refused (refused r) out r refl h (q ∙ ap refusedWith e)
+hands-number (given w) out n e h z q = absurd (z e)

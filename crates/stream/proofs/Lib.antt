@@ -4,3 +4,10 @@ pub mod Sizes
 pub mod Unrolls
 pub mod Written
 pub mod Seeks
+pub mod Writing
+pub mod Scan
+pub mod Fields
+pub mod Firsts
+pub mod Keyed
+pub mod Prologue
+pub mod Images

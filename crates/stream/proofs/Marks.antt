@@ -3,17 +3,16 @@ use mathlib.Core.Path.{_≡_, refl, ap}
 use mathlib.Core.Bool.{Bool, true, false, cond, not, _&&_}
 use mathlib.Core.List.{List, [], _∷_, _++_}
 use mathlib.Core.Option.{Option, none, some}
-use Prim.Native.Nat.{ℕ, zero, suc, _/_, _<_}
+use Prim.Native.Nat.{ℕ, zero, suc, _<_}
 use native.Mathlib.Omega.{arith}
 use borrow.Author.Tests.{eq-eqb, ne-eqb}
-use lib.Bits.{bitOr}
-use lib.Dec.{T, eqb, T-not, eqb-refl, eqb→eq}
+use lib.Dec.{T, eqb, T-not, eqb-refl}
 use lib.ListN.{length, getD, drop, replicate, length-drop, List·getD-eq-default}
 use Rattle.lists.proofs.Laws.{tab-all}
 use Rattle.lists.proofs.Split.{by-lt}
 use Rattle.lists.proofs.Table.{every, test-at}
-use Rattle.nibble.specs.Nibble.{writes, writeOf, nibbleOf, encode}
-use Rattle.stream.specs.Stream.{after, of44, four}
+use Rattle.nibble.specs.Nibble.{four, writes, writeOf, nibbleOf, encode}
+use Rattle.stream.specs.Stream.{after}
 use Rattle.stream.specs.Pieces.{Free}
 
 -- ---- free of D5h
@@ -59,12 +58,7 @@ pub free-encode : (d : List ℕ) → Free (encode d)
 unfolding encode nibbleOf
 free-encode d = tab-all (λ (x : ℕ). x ≡ 0xD5 → ⊥) (nibbleOf d) 343 (omega arith) (λ k. free-write _)
 
--- ---- 4-and-4, by computing the 256 bytes
--- there and back
-pub four-back : (v : ℕ) → v < 256 → of44 (bitOr (v / 2) 0xAA) (bitOr v 0xAA) ≡ v
-four-back v h = eqb→eq _ v (test-at (λ k x. eqb (of44 (bitOr (k / 2) 0xAA) (bitOr k 0xAA)) k) (replicate 256 0) tt v h)
-
--- a byte in 4-and-4
+-- a byte in 4-and-4, by computing the 256 bytes
 pub free-four : (v : ℕ) → v < 256 → Free (four v)
 free-four v h = free-test (four v) (test-at (λ k x. every other 0 (four k)) (replicate 256 0) tt v h)
 

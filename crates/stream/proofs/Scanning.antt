@@ -9,11 +9,12 @@ use lib.Bits.{bitXor, bitOr, xor-lt}
 use lib.ListN.{length, take, drop, replicate, length-append, length-drop}
 use lib.Seq.{take-at, drop-at}
 use Rattle.outcome.specs.Outcome.{Outcome, given, _>>=_}
-use Rattle.nibble.specs.Nibble.{encode}
+use Rattle.nibble.specs.Nibble.{of44, encode}
 use Rattle.nibble.proofs.Callers.{length-encode}
-use Rattle.stream.specs.Stream.{after, of44, Field, fields, fromData, fromAddress, addressWriting, dataWriting, sectorSpaced, sectorWriting}
+use Rattle.nibble.proofs.Four.{four-back}
+use Rattle.stream.specs.Stream.{after, Field, fields, fromData, fromAddress, addressWriting, dataWriting, sectorSpaced, sectorWriting}
 use Rattle.stream.specs.Pieces.{Free}
-use Rattle.stream.proofs.Marks.{after-found, after-none, after-shorter, four-back, free-nil, free-replicate}
+use Rattle.stream.proofs.Marks.{after-found, after-none, after-shorter, free-nil, free-replicate}
 
 abbrev pub field : ℕ → ℕ → ℕ → List ℕ → Field
 field v t p ns = record { volume = v; track = t; sector = p; nibbles = ns }

@@ -23,7 +23,7 @@ use Rattle.stream.proofs.Scanning.{field, fields-none, fields-spaced, l
 use Rattle.stream.proofs.Sizes.{Sized}
 
 -- ---- the order of the sectors on a track, computed at its 16 places
-abbrev wayBack : ℕ → ℕ
+abbrev pub wayBack : ℕ → ℕ
 wayBack s = cond (eqb s 15) 15 (13 * s % 15)
 
 -- a DOS sector
@@ -49,7 +49,7 @@ join (refused r) y d e = cc
 join (given ys) y d e = cc
 
 -- where each call gives its 256 bytes of d, all together give d
-each-joins : (f : ℕ → Outcome (List ℕ)) (h : ℕ → ℕ) (n : ℕ) (d : List ℕ) → length d ≡ 256 * n
+pub each-joins : (f : ℕ → Outcome (List ℕ)) (h : ℕ → ℕ) (n : ℕ) (d : List ℕ) → length d ≡ 256 * n
     → ((k : ℕ) → k < n → f (h k) ≡ given (take 256 (drop (256 * k) d)))
     → (each f (tab h n) >>= λ ss. given (flatten ss)) ≡ given d
 unfolding each tab flatten

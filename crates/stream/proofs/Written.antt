@@ -2,16 +2,21 @@
 use mathlib.Core.Path.{_≡_, refl, sym, ap, _∙_}
 use mathlib.Core.Logic.{inl, inr}
 use mathlib.Core.List.{List, [], _∷_, _++_}
-use Prim.Native.Nat.{ℕ, zero, suc, _/_, _%_, _<_}
+use Prim.Native.Nat.{ℕ, zero, suc, _/_, _%_, _<_, _≤_}
 use native.Mathlib.Nat.{not-suc-le-zero, le-of-suc-le-suc}
 use native.Mathlib.Omega.{arith}
-use borrow.Author.Tests.{eq-eqb}
-use lib.ListN.{length, replicate, length-append}
+use borrow.Author.Tests.{eq-eqb, eqb-true}
+use lib.Dec.{eqb}
+use lib.ListN.{length, take, drop, replicate, length-append}
+use lib.Seq.{take-at}
 use Rattle.lists.specs.Fill.{cats, Bytes}
 use Rattle.lists.proofs.Blocks.{length-cats, cats-front}
 use Rattle.disk.specs.Vtoc.{vtoc}
 use Rattle.disk.specs.Disk.{byteOf, sized}
-use Rattle.outcome.specs.Outcome.{given}
+use Rattle.outcome.specs.declared.Handed.{Handed}
+use Rattle.outcome.specs.declared.Refusal.the-variants.{OffSize}
+use Rattle.outcome.specs.Outcome.{given, handed, answerOf, acceptedWith, Hands}
+use Rattle.outcome.proofs.Outcome.{met, handed-fits, hands-given, hands-left}
 use Rattle.stream.specs.Stream.{image, sectorSpaced, sectorWriting, held, block, nibblized}
 use Rattle.stream.specs.Pieces.{Piece, laid, Sound, Has}
 use Rattle.stream.proofs.Marks.{free-nil, free-replicate}
@@ -69,3 +74,22 @@ nibblized-unrolls d s l b e =
     let v : ℕ = byteOf 16 d vtoc 6 in
     let q : laid v d (row (λ k. k) 560) [] ≡ s = cc (nibblized-is d l, row-laid v d (λ k. k) 560) in
     rw (← q) (unrolls v d (b _) l b (row (λ k. k) 560) [] (row-sound (λ k. k) 560 (λ k h. h)) free-nil (row-has (λ k. k) 560))
+
+-- the size was tested
+nibblized-sized : (d s : List ℕ) → nibblized d ≡ given s → length d ≡ 143360
+unfolding nibblized sized
+nibblized-sized d s e = eqb-true (length d) 143360 (met (eqb (length d) 143360) OffSize _ e .0)
+
+-- the same of the two calls: what nibblize accepts and writes, denibblize accepts, and gives the disk back
+pub written-denibblizes : (d before after : List ℕ) (r : Handed) → Bytes d → Hands (nibblized d) before after r → r .refusal ≡ 0
+    → (out image-out : List ℕ) (q : Handed) → 143360 ≤ length out → Hands (image (take (r .length) after)) out image-out q
+    → (q ≡ acceptedWith 143360) × (image-out ≡ d ++ drop 143360 out)
+written-denibblizes d before after r b h z out image-out q room k =
+    let g = hands-given h z in
+    let w : List ℕ = g .0 in
+    let l : length d ≡ 143360 = nibblized-sized d w (g .1) in
+    let n : r .length ≡ length w = ap (λ (x : Handed). x .length) (h .answer ∙ ap answerOf (handed-fits (nibblized d) before (g .1) (g .2))) in
+    let t : take (r .length) after ≡ w = ap (λ (m : ℕ). take m after) n ∙ ap (take (length w)) (g .3) ∙ take-at w (drop (length w) before) (length w) refl in
+    let i : image (take (r .length) after) ≡ given d = ap image t ∙ nibblized-unrolls d w l b (g .1) in
+    let f : handed (image (take (r .length) after)) out ≡ given d = handed-fits (image (take (r .length) after)) out i (omega arith) in
+    (k .answer ∙ ap answerOf f ∙ ap acceptedWith l, hands-left d k i (omega arith) ∙ ap (λ (m : ℕ). d ++ drop m out) l)

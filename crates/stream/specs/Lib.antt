@@ -1,3 +1,5 @@
 pub mod Stream
 pub mod Pieces
 pub mod Search
+pub mod Scan
+pub mod Steps

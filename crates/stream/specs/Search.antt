@@ -1,6 +1,6 @@
--- The search for the byte D5h, with which every mark begins: document 01, "Fields".
+-- The search for the byte D5h, with which every mark begins, and for the first prologue: document 01, "Fields" and "Beside these".
 use mathlib.Core.Path.{_≡_}
-use mathlib.Core.Bool.{cond}
+use mathlib.Core.Bool.{cond, _&&_, _||_}
 use mathlib.Core.List.{List, [], _∷_}
 use Prim.Native.Nat.{ℕ, suc, _+_, _<_}
 use lib.Dec.{eqb}
@@ -19,3 +19,12 @@ isMark b = cond (eqb b 0xD5) 1 0
 -- if r is 0, no D5h stands at the n places from i on
 pub record Clear (s : List ℕ) (i r n : ℕ) : Type 0 where
   pub clear : r ≡ 0 → (j : ℕ) → j < n → getD s (i + j) 0 ≡ 0xD5 → ⊥
+
+-- ---- recognize_prologue: document 01, "Beside these"
+-- 96h or B5h, whichever first follows a D5 AA; 0 where neither does
+unfoldable pub recognized : List ℕ → ℕ
+recognized [] = 0
+recognized (x ∷ xs) =
+    let rest = recognized xs in
+    let c = getD xs 1 0 in
+    cond (eqb x 0xD5 && (eqb (getD xs 0 0) 0xAA && (eqb c 0x96 || eqb c 0xB5))) c rest

@@ -1,19 +1,19 @@
 -- A nibble stream: its fields, the flat disk that it holds (01: unroll), a sector by its key, and a disk written as nibbles. Document 01, "Fields",
--- "Unroll" and "Nibble writer" under Modules, 4-and-4 under "Nibbles", and the nibble order under "Numbers on the slip".
+-- "Unroll" and "Nibble writer" under Modules, and the nibble order under "Numbers on the slip".
 use mathlib.Core.Bool.{Bool, cond, not, _&&_, _||_}
 use mathlib.Core.List.{List, [], _∷_, _++_, flatten}
 use mathlib.Core.Option.{Option, none, some}
 use Prim.Native.Nat.{ℕ, zero, suc, _+_, _*_, _/_, _%_}
 use lib.ListN.{length, getD, take, drop, replicate}
 use lib.Dec.{ltb, eqb}
-use lib.Bits.{bitXor, bitAnd, bitOr}
+use lib.Bits.{bitXor}
 use Rattle.lists.specs.Fill.{below, cats}
 use Rattle.lists.specs.Select.{all, any}
 use Rattle.outcome.specs.declared.Refusal.the-variants.{AddressSum, DataSum, Absent, Stranger}
 use Rattle.outcome.specs.Outcome.{Outcome, refused, given, _>>=_, _>>_, require, each}
 use Rattle.disk.specs.Disk.{place, byteOf, bytesOf, sized}
 use Rattle.disk.specs.Vtoc.{vtoc}
-use Rattle.nibble.specs.Nibble.{valAt, decode, encode}
+use Rattle.nibble.specs.Nibble.{of44, four, valAt, decode, encode}
 
 -- ---- the fields of a stream
 -- what stands after the first D5 AA c
@@ -29,10 +29,6 @@ pub record Field : Type 0 where
   pub track : ℕ
   pub sector : ℕ
   pub nibbles : List ℕ
-
--- 4-and-4: the byte of the two bytes a and b
-abbrev pub of44 : ℕ → ℕ → ℕ
-of44 a b = bitAnd ((2 * a + 1) % 256) b
 
 -- byte k of an address, in 4-and-4
 abbrev pub byte4 : List ℕ → ℕ → ℕ
@@ -118,10 +114,6 @@ unfoldable pub sectorOf : ℕ → ℕ → ℕ → List ℕ → Outcome (List ℕ
 sectorOf v t s stream = fields (length stream) stream >>= λ fs. require (sumsOk (firsts [] fs)) DataSum >> ofKey v t s fs
 
 -- ---- nibblize (01: nibble writer)
--- a byte in 4-and-4
-abbrev pub four : ℕ → List ℕ
-four v = bitOr (v / 2) 0xAA ∷ bitOr v 0xAA ∷ []
-
 -- an address as it is written
 unfoldable pub addressWriting : ℕ → ℕ → ℕ → List ℕ
 addressWriting v t p = 0xD5 ∷ 0xAA ∷ 0x96 ∷ four v ++ (four t ++ (four p ++ (four (bitXor (bitXor v t) p) ++ (0xDE ∷ 0xAA ∷ 0xEB ∷ []))))

@@ -1,0 +1,18 @@
+use Rattle.stream.proofs.Images.{imaged}
+use Rattle.stream.proofs.denibblize.Statement.{statement}
+use Rattle.stream.proofs.denibblize.Tie as tie
+
+pub denibblize-spec : {M : Type 1} → statement M
+denibblize-spec =
+    tie.close
+    (tie.spec
+    (λ c κs. search imaged)  -- survey-requires
+    (λ c κs. search imaged)  -- refused-requires
+    (λ c. search imaged)  -- returns
+    (λ c κs. search imaged)  -- refused-requires-2
+    (λ c. search imaged)  -- returns-2
+    (λ c κs. search imaged)  -- put-image-requires
+    (λ c κs. search imaged)  -- accepted-requires
+    (λ c. search imaged)  -- same-length
+    (λ c. search imaged)  -- returns-3
+    )
