@@ -22,7 +22,7 @@ use Rattle.disk.specs.Disk.{place, start, byteOf}
 use Rattle.files.specs.declared.Thread.{Thread}
 use Rattle.files.specs.declared.Choice.{Choice}
 use Rattle.files.specs.declared.Totals.{Totals}
-use Rattle.files.specs.Threads.{followed, sizeOf}
+use Rattle.files.specs.Threads.{noThread, followed, sizeOf}
 use Rattle.files.specs.Contents.{listWalk, lists}
 use Rattle.files.specs.Totals.{choice, noChoice, noTotals, Within, Bounded, Linked, withPage, Ranged, Paged, picked, chosen, withThread, withEntry, Joined, Entered, Added}
 
@@ -44,8 +44,8 @@ module _ (n : ℕ) (d : List ℕ) (kind : ℕ) (t : Thread) where
 pub ruleset sizes = (size-none, size-stated, size-all, needs)
 
 -- ---- nothing yet
-pub no-choice-is : (h : Place) → h ≡ place 0 0 → record { found = false; list = h; kind = 0 } ≡ noChoice
-no-choice-is h e = rw e refl
+pub no-choice-is : (h : Place) (t : Thread) → h ≡ place 0 0 → t ≡ noThread 0 → record { found = false; list = h; kind = 0; thread = t } ≡ noChoice
+no-choice-is h t e f = rw (e, f) refl
 
 pub no-totals-is : (k : ℕ) (c : Choice) → c ≡ noChoice → record { refusal = k; entries = 0; links = 0; blocks = 0; choice = c } ≡ noTotals k
 no-totals-is k c e = rw e refl
@@ -62,11 +62,11 @@ picks-name b r z j k e q = rw e q
 pub picks-number : (b z : Bool) (j k : ℕ) → b ≡ false → eqb j k ≡ cond b z (eqb j k)
 picks-number b z j k e = rw e refl
 
-pub choose-new : (b : Bool) (c : Choice) (l : Place) (m : ℕ) → b ≡ true → choice l m ≡ cond b (choice l m) c
-choose-new b c l m e = rw e refl
+pub choose-new : (b : Bool) (c : Choice) (l : Place) (m : ℕ) (h : Thread) → b ≡ true → choice l m h ≡ cond b (choice l m h) c
+choose-new b c l m h e = rw e refl
 
-pub choose-old : (b : Bool) (c : Choice) (l : Place) (m : ℕ) → b ≡ false → c ≡ cond b (choice l m) c
-choose-old b c l m e = rw e refl
+pub choose-old : (b : Bool) (c : Choice) (l : Place) (m : ℕ) (h : Thread) → b ≡ false → c ≡ cond b (choice l m h) c
+choose-old b c l m h e = rw e refl
 
 pub ruleset chooses = (picks-name, picks-number, choose-new, choose-old, needs)
 
@@ -91,7 +91,7 @@ module _ (n : ℕ) (d : List ℕ) (b : Bool) (k : ℕ) (w : List ℕ) (t : Total
     -- they do not
     pub join-more : h .refusal ≡ 0 → (s : ℕ) (pick : Bool) (o : Choice) → s ≡ sizeOf n d (f .«file_type») h → s ≤ 65538
         → pick ≡ cond b (same w (take (f .name .length) (f .name .letters))) (eqb (t .entries) k)
-        → o ≡ cond pick (choice (f .list) (f .«file_type»)) (t .choice) → h .lists < 65536
+        → o ≡ cond pick (choice (f .list) (f .«file_type») h) (t .choice) → h .lists < 65536
         → Joined n d b k w t f h (record { refusal = 0; entries = t .entries + 1; links = t .links + h .lists; blocks = t .blocks + (1 + (s + 253) / 254); choice = o })
     join-more m s pick o i l p q r =
         record {
@@ -99,9 +99,9 @@ module _ (n : ℕ) (d : List ℕ) (b : Bool) (k : ℕ) (w : List ℕ) (t : Total
               let p′ : pick ≡ picked n d b k w (t .entries) e =
               p ∙ ap (λ (j : FileEntry). cond b (same w (take (j .name .length) (j .name .letters))) (eqb (t .entries) k)) a
               ∙ ap (λ (j : List ℕ). cond b (same w j) (eqb (t .entries) k)) (front-name (e .raw)) in
-              let o′ : o ≡ chosen n d b k w (t .choice) (t .entries) e =
-              q ∙ ap (λ (j : FileEntry). cond pick (choice (j .list) (j .«file_type»)) (t .choice)) a
-              ∙ ap (λ (j : Bool). cond j (choice (e .list) (e .kind)) (t .choice)) p′ in
+              let o′ : o ≡ chosen n d b k w (t .choice) (t .entries) e h =
+              q ∙ ap (λ (j : FileEntry). cond pick (choice (j .list) (j .«file_type») h) (t .choice)) a
+              ∙ ap (λ (j : Bool). cond j (choice (e .list) (e .kind) h) (t .choice)) p′ in
               let i′ : s ≡ sizeOf n d (e .kind) h = i ∙ ap (λ (j : FileEntry). sizeOf n d (j .«file_type») h) a in
               (λ j. record { refusal = 0; entries = t .entries + 1; links = t .links + h .lists; blocks = t .blocks + (1 + (i′ j + 253) / 254); choice = o′ j })
               ∙ sym (rw (eq-eqb _ _ m) refl);

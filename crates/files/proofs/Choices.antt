@@ -19,9 +19,9 @@ use Rattle.files.specs.declared.Choice.{Choice}
 use Rattle.files.specs.declared.Totals.{Totals}
 use Rattle.files.specs.Contents.{File, Contents, contents, fileOf}
 use Rattle.files.specs.Survey.{lastNamed, fetched}
-use Rattle.files.specs.Totals.{choice, noChoice, totaled, totals}
-use Rattle.files.specs.Chosen.{chosenIn, numbered, fileOfNumber}
-use Rattle.files.specs.Copies.{FileAt, fileBytes}
+use Rattle.files.specs.Totals.{noChoice, totaled, totals}
+use Rattle.files.specs.Chosen.{chosenIn, choiceOf, numbered, fileOfNumber}
+use Rattle.files.specs.Copies.{Kept, fileBytes}
 use Rattle.files.proofs.Order.{file-given}
 use Rattle.files.proofs.Proper.{catalog-size}
 use Rattle.files.proofs.Calls.{Found, total-refused, total-given}
@@ -29,7 +29,7 @@ use Rattle.files.proofs.Calls.{Found, total-refused, total-given}
 module _ (n : ℕ) (d : List ℕ) (x : List ℕ) where
   -- the chosen entry e with its file f
   abbrev Chosen : Choice → (File → Type 0) → Type 0
-  Chosen c P = (e : Entry) × (f : File) × (fileOf n d e ≡ given f) × (c ≡ choice (e .list) (e .kind)) × P f
+  Chosen c P = (e : Entry) × (f : File) × (fileOf n d e ≡ given f) × (c ≡ choiceOf n d e) × P f
 
   -- ---- by number
   module _ (k : ℕ) where
@@ -47,7 +47,7 @@ module _ (n : ℕ) (d : List ℕ) (x : List ℕ) where
     num (e ∷ es) fs c j h =
         let w = each-cons (fileOf n d) e es fs h in
         by-test (eqb j k)
-        (λ b. let q = eqb-true j k b in inr (e, w .0, w .2, rw b (num-past es (choice (e .list) (e .kind)) (j + 1) (omega arith)), ap (numbered k j) (w .4) ∙ rw b refl))
+        (λ b. let q = eqb-true j k b in inr (e, w .0, w .2, rw b (num-past es (choiceOf n d e) (j + 1) (omega arith)), ap (numbered k j) (w .4) ∙ rw b refl))
         (λ b.
         ⊎-elim (λ i. inl (rw b (i .0), ap (numbered k j) (w .4) ∙ rw b (i .1))) (λ i. inr (i .0, i .1, i .2, rw b (i .3), ap (numbered k j) (w .4) ∙ rw b (i .4)))
         (num es (w .1) c (j + 1) (w .3)))
@@ -80,14 +80,14 @@ module _ (n : ℕ) (d : List ℕ) (x : List ℕ) where
       (λ b. inr (e, f, w .2, rw b (rw b at (i .0)), ap (lastNamed x) (w .4) ∙ named-here f (w .1) (i .1) (rw m b)))
       (λ b. inl (rw b (rw b at (i .0)), ap (lastNamed x) (w .4) ∙ named-not f (w .1) (i .1) (rw m b))))
       (λ i. inr (i .0, i .1, i .2, i .3, ap (lastNamed x) (w .4) ∙ named-on f (w .1) (i .1 .bytes) (i .4)))
-      (nam k es (w .1) (cond (same x (shown (e .raw))) (choice (e .list) (e .kind)) c) (j + 1) (w .3))
+      (nam k es (w .1) (cond (same x (shown (e .raw))) (choiceOf n d e) c) (j + 1) (w .3))
 
 -- ---- the bytes of the chosen entry
-module _ (d : List ℕ) (es : List Entry) (g : catalog 16 d ≡ given es) (e : Entry) (f : File) (h : fileOf 16 d e ≡ given f) (c : Choice) (q : c ≡ choice (e .list) (e .kind)) where
-  pub chosen-at : FileAt 16 d (c .list)
+module _ (d : List ℕ) (es : List Entry) (g : catalog 16 d ≡ given es) (e : Entry) (f : File) (h : fileOf 16 d e ≡ given f) (c : Choice) (q : c ≡ choiceOf 16 d e) where
+  pub chosen-at : Kept 16 d (c .list) (c .thread)
   chosen-at =
       let t = file-given 16 d e f h in
-      rw q (record { ls = t .0; is = t .1; on = t .2; size = catalog-size 16 d es g })
+      rw q (record { at = record { ls = t .0; is = t .1; on = t .2; size = catalog-size 16 d es g }; thread = refl })
 
   chosen-bytes : fileBytes 16 d (c .list) (c .kind) ≡ given (f .bytes)
   unfolding fileBytes
@@ -100,7 +100,7 @@ module _ (d : List ℕ) (b : Bool) (k : ℕ) (x : List ℕ) (t : Totals) (u : t 
   abbrev Which : Type 0
   Which =
       ((t .choice ≡ noChoice) × (W ≡ none))
-      ⊎ ((e : Entry) × (f : File) × (fileOf 16 d e ≡ given f) × (t .choice ≡ choice (e .list) (e .kind)) × (W ≡ given (f .bytes)))
+      ⊎ ((e : Entry) × (f : File) × (fileOf 16 d e ≡ given f) × (t .choice ≡ choiceOf 16 d e) × (W ≡ given (f .bytes)))
 
   -- the choice among the entries
   the-choice : (z : t .refusal ≡ 0) → t .choice ≡ chosenIn 16 d b k x noChoice 0 (total-given d b k x t u z .2 .es)
@@ -111,7 +111,7 @@ module _ (d : List ℕ) (b : Bool) (k : ℕ) (x : List ℕ) (t : Totals) (u : t 
   none-is n (inr i) = absurd (clash (sym n ∙ ap (λ (y : Choice). y .found) (i .3)))
 
   module _ (z : t .refusal ≡ 0) (y : t .choice .found ≡ true) where
-    at-is : Which → FileAt 16 d (t .choice .list)
+    at-is : Which → Kept 16 d (t .choice .list) (t .choice .thread)
     at-is (inl i) = absurd (clash (sym (ap (λ (a : Choice). a .found) (i .0)) ∙ y))
     at-is (inr i) = let v = total-given d b k x t u z in chosen-at d (v .2 .es) (v .2 .catalog) (i .0) (i .1) (i .2) (t .choice) (i .3)
 
@@ -132,7 +132,7 @@ module _ (d : List ℕ) (k : ℕ) (x : List ℕ) (t : Totals) (u : t ≡ totaled
       v = total-given d false k x t u z
 
       go : ((chosenIn 16 d false k x noChoice 0 (v .2 .es) ≡ noChoice) × (numbered k 0 (v .0 .files) ≡ []))
-          ⊎ ((e : Entry) × (f : File) × (fileOf 16 d e ≡ given f) × (chosenIn 16 d false k x noChoice 0 (v .2 .es) ≡ choice (e .list) (e .kind)) × (numbered k 0 (v .0 .files) ≡ f .bytes))
+          ⊎ ((e : Entry) × (f : File) × (fileOf 16 d e ≡ given f) × (chosenIn 16 d false k x noChoice 0 (v .2 .es) ≡ choiceOf 16 d e) × (numbered k 0 (v .0 .files) ≡ f .bytes))
           → Which d false k x t u (fileOfNumber 16 d k) (given [])
       go (inl i) = inl (the-choice d false k x t u (fileOfNumber 16 d k) (given []) z ∙ i .0, number-bytes (v .0) (v .1) ∙ ap given (i .1))
       go (inr i) =
@@ -150,7 +150,7 @@ module _ (d : List ℕ) (k : ℕ) (x : List ℕ) (t : Totals) (u : t ≡ totaled
         hands-over (fileOfNumber 16 d k) o o [] (none-is d false k x t u (fileOfNumber 16 d k) (given []) n (which-file z)) (omega arith) refl r q
 
     module _ (y : t .choice .found ≡ true) where
-      pub file-at : FileAt 16 d (t .choice .list)
+      pub file-at : Kept 16 d (t .choice .list) (t .choice .thread)
       file-at = at-is d false k x t u (fileOfNumber 16 d k) (given []) z y (which-file z)
 
       pub file-done : (o′ : List ℕ) (r : Handed) → Hands (fileBytes 16 d (t .choice .list) (t .choice .kind)) o o′ r → Hands (fileOfNumber 16 d k) o o′ r
@@ -171,7 +171,7 @@ module _ (d : List ℕ) (k : ℕ) (x : List ℕ) (t : Totals) (u : t ≡ totaled
       v = total-given d true k x t u z
 
       go : ((chosenIn 16 d true k x noChoice 0 (v .2 .es) ≡ noChoice) × (lastNamed x (v .0 .files) ≡ refused NotOnRoll))
-          ⊎ ((e : Entry) × (f : File) × (fileOf 16 d e ≡ given f) × (chosenIn 16 d true k x noChoice 0 (v .2 .es) ≡ choice (e .list) (e .kind)) × (lastNamed x (v .0 .files) ≡ given (f .bytes)))
+          ⊎ ((e : Entry) × (f : File) × (fileOf 16 d e ≡ given f) × (chosenIn 16 d true k x noChoice 0 (v .2 .es) ≡ choiceOf 16 d e) × (lastNamed x (v .0 .files) ≡ given (f .bytes)))
           → Which d true k x t u (fetched 16 d x) (refused NotOnRoll)
       go (inl i) = inl (the-choice d true k x t u (fetched 16 d x) (refused NotOnRoll) z ∙ i .0, name-bytes (v .0) (v .1) ∙ i .1)
       go (inr i) =
@@ -189,7 +189,7 @@ module _ (d : List ℕ) (k : ℕ) (x : List ℕ) (t : Totals) (u : t ≡ totaled
         hands-refused (fetched 16 d x) o NotOnRoll (none-is d true k x t u (fetched 16 d x) (refused NotOnRoll) n (which-name z)) r q
 
     module _ (y : t .choice .found ≡ true) where
-      pub fetch-at : FileAt 16 d (t .choice .list)
+      pub fetch-at : Kept 16 d (t .choice .list) (t .choice .thread)
       fetch-at = at-is d true k x t u (fetched 16 d x) (refused NotOnRoll) z y (which-name z)
 
       pub fetch-done : (o′ : List ℕ) (r : Handed) → Hands (fileBytes 16 d (t .choice .list) (t .choice .kind)) o o′ r → Hands (fetched 16 d x) o o′ r

@@ -25,8 +25,8 @@ use Rattle.disk.proofs.Steps.{made, rest, joins, joined-is, rest-start, rest-wi
 use Rattle.files.specs.declared.Spot.{Spot}
 use Rattle.files.specs.declared.Thread.{Thread}
 use Rattle.files.specs.Contents.{bytesIn, pairsOf, soundList, nextList, listWalk}
-use Rattle.files.specs.Threads.{headOf, followed, sizeOf}
-use Rattle.files.specs.Copies.{cutOf, Copied, Roomy, Whole, CopiedAll, FileAt, listBytes, walkBytes, fileBytes, startOf}
+use Rattle.files.specs.Threads.{headOf, sizeOf}
+use Rattle.files.specs.Copies.{cutOf, Copied, Roomy, Whole, CopiedAll, Kept, listBytes, walkBytes, fileBytes, startOf}
 use Rattle.files.proofs.Proper.{all-long, bytesIn-binary}
 use Rattle.files.proofs.Sums.{stated, first, size-is}
 use Rattle.files.proofs.Copying.{copied-none, copied-roomy, copied-long, copied-more}
@@ -163,17 +163,17 @@ module _ (n : ℕ) (d : List ℕ) (size : length d ≡ 256 * sectors n) where
       ∙ sym (flatMap-append (bytesOf n d) (pairsOf n d l) (flatMap (pairsOf n d) ls))
 
 -- ---- the bytes of a file: h is what its lists come to
-module _ (n : ℕ) (d : List ℕ) (p : Place) (kind : ℕ) (f : FileAt n d p) (h : Thread) (u : h ≡ followed n d (listWalk n d p)) (o : List ℕ) where
-  pub thread : h ≡ record { refusal = 0; lists = length (f .ls); pairs = length (flatMap (pairsOf n d) (f .ls)); head = headOf (flatMap (pairsOf n d) (f .ls)) }
-  thread = u ∙ rw (f .is, f .on) refl
+module _ (n : ℕ) (d : List ℕ) (p : Place) (kind : ℕ) (h : Thread) (f : Kept n d p h) (o : List ℕ) where
+  pub thread : h ≡ record { refusal = 0; lists = length (f .at .ls); pairs = length (flatMap (pairsOf n d) (f .at .ls)); head = headOf (flatMap (pairsOf n d) (f .at .ls)) }
+  thread = f .thread ∙ rw (f .at .is, f .at .on) refl
 
   -- the bytes are given
-  bytes : fileBytes n d p kind ≡ given (bytesIn kind (flatMap (bytesOf n d) (flatMap (pairsOf n d) (f .ls))))
+  bytes : fileBytes n d p kind ≡ given (bytesIn kind (flatMap (bytesOf n d) (flatMap (pairsOf n d) (f .at .ls))))
   unfolding fileBytes
-  bytes = rw (f .is) refl
+  bytes = rw (f .at .is) refl
 
-  long : sizeOf n d kind h ≡ length (bytesIn kind (flatMap (bytesOf n d) (flatMap (pairsOf n d) (f .ls))))
-  long = size-is n d (f .size) kind _ h (f .on) (ap (λ (y : Thread). y .pairs) thread) (ap (λ (y : Thread). y .head) thread)
+  long : sizeOf n d kind h ≡ length (bytesIn kind (flatMap (bytesOf n d) (flatMap (pairsOf n d) (f .at .ls))))
+  long = size-is n d (f .at .size) kind _ h (f .at .on) (ap (λ (y : Thread). y .pairs) thread) (ap (λ (y : Thread). y .head) thread)
 
   pub data-short : (m : ℕ) (r : Handed) → m ≡ sizeOf n d kind h → length o < m → r ≡ refusedWith 12 → Hands (fileBytes n d p kind) o o r
   data-short m r e l q = hands-short (fileBytes n d p kind) o _ bytes (omega (arith, long)) r q
@@ -181,21 +181,21 @@ module _ (n : ℕ) (d : List ℕ) (p : Place) (kind : ℕ) (f : FileAt n d p) (h
   pub data-room : (m k : ℕ) → m ≤ length o → Roomy m (record { at = 0; skip = k }) o
   data-room m k l = record { within = omega arith; fits = l }
 
-  walked : walkBytes n d p ≡ given (flatMap (bytesOf n d) (flatMap (pairsOf n d) (f .ls)))
+  walked : walkBytes n d p ≡ given (flatMap (bytesOf n d) (flatMap (pairsOf n d) (f .at .ls)))
   unfolding walkBytes
-  walked = rw (f .is) (ap given (joined-lists n d (f .size) (f .ls)))
+  walked = rw (f .at .is) (ap given (joined-lists n d (f .at .size) (f .at .ls)))
 
   pub data-whole : Whole (walkBytes n d p)
-  data-whole = record { whole = flatMap (bytesOf n d) (flatMap (pairsOf n d) (f .ls)); is = walked }
+  data-whole = record { whole = flatMap (bytesOf n d) (flatMap (pairsOf n d) (f .at .ls)); is = walked }
 
   pub data-done : (m k : ℕ) (o′ : List ℕ) (r : Handed) → m ≡ sizeOf n d kind h → m ≤ length o → k ≡ startOf n d kind h
       → CopiedAll m (walkBytes n d p) (record { at = 0; skip = k }) o o′ → r ≡ acceptedWith m → Hands (fileBytes n d p kind) o o′ r
   data-done m k o′ r e l q c z =
-      let x : List ℕ = bytesIn kind (flatMap (bytesOf n d) (flatMap (pairsOf n d) (f .ls))) in
-      let a : o′ ≡ put 0 (cutOf (m - 0) k (flatMap (bytesOf n d) (flatMap (pairsOf n d) (f .ls)))) o = c .puts _ walked in
+      let x : List ℕ = bytesIn kind (flatMap (bytesOf n d) (flatMap (pairsOf n d) (f .at .ls))) in
+      let a : o′ ≡ put 0 (cutOf (m - 0) k (flatMap (bytesOf n d) (flatMap (pairsOf n d) (f .at .ls)))) o = c .puts _ walked in
       let b : m - 0 ≡ sizeOf n d kind h = omega arith in
-      let i : cutOf (m - 0) k (flatMap (bytesOf n d) (flatMap (pairsOf n d) (f .ls))) ≡ x =
-      rw (b, q) (cut-is n d (f .size) kind _ h (f .on) (ap (λ (y : Thread). y .pairs) thread) (ap (λ (y : Thread). y .head) thread)) in
+      let i : cutOf (m - 0) k (flatMap (bytesOf n d) (flatMap (pairsOf n d) (f .at .ls))) ≡ x =
+      rw (b, q) (cut-is n d (f .at .size) kind _ h (f .at .on) (ap (λ (y : Thread). y .pairs) thread) (ap (λ (y : Thread). y .head) thread)) in
       let s : length x ≡ m = sym (e ∙ long) in
       let w : Put 0 x o o′ = put-is (a ∙ ap (λ (y : List ℕ). put 0 y o) i) (omega arith) in
       hands-over (fileBytes n d p kind) o o′ x bytes (omega arith) (put-front w) r (rw s z)

@@ -25,10 +25,9 @@ use Rattle.files.specs.declared.Choice.{Choice}
 use Rattle.files.specs.declared.Thread.{Thread}
 use Rattle.files.specs.declared.Totals.{Totals}
 use Rattle.files.specs.Contents.{File, Contents, contents, placeBytes, soundList, nextList, listWalk, fileOf}
-use Rattle.files.specs.Threads.{followed}
-use Rattle.files.specs.Totals.{choice, noChoice, totaled, totals}
-use Rattle.files.specs.Chosen.{chosenIn, walkPlaces, listsFrom, listsOfNumber}
-use Rattle.files.specs.Copies.{FileAt}
+use Rattle.files.specs.Totals.{noChoice, totaled, totals}
+use Rattle.files.specs.Chosen.{chosenIn, choiceOf, walkPlaces, listsFrom, listsOfNumber}
+use Rattle.files.specs.Copies.{Kept}
 use Rattle.files.proofs.Calls.{total-refused, total-given}
 use Rattle.files.proofs.Datas.{thread}
 use Rattle.files.proofs.PairCalls.{length-two}
@@ -121,19 +120,19 @@ module _ (n : ℕ) (d : List ℕ) where
 pub ruleset placings = (place-none, place-sum, place-full, place-long, place-last, place-more, needs)
 
 -- ---- the lists of a file: h is what they come to
-module _ (n : ℕ) (d : List ℕ) (p : Place) (f : FileAt n d p) (h : Thread) (u : h ≡ followed n d (listWalk n d p)) (o : List ℕ) where
-  gives : walkPlaces n d p ≡ given (flatMap placeBytes (f .ls))
+module _ (n : ℕ) (d : List ℕ) (p : Place) (h : Thread) (f : Kept n d p h) (o : List ℕ) where
+  gives : walkPlaces n d p ≡ given (flatMap placeBytes (f .at .ls))
   unfolding walkPlaces
-  gives = rw (f .is) refl
+  gives = rw (f .at .is) refl
 
-  long : length (flatMap placeBytes (f .ls)) ≡ 2 * h .lists
-  long = length-two (f .ls) ∙ rw (thread n d p 0 f h u o) refl
+  long : length (flatMap placeBytes (f .at .ls)) ≡ 2 * h .lists
+  long = length-two (f .at .ls) ∙ rw (thread n d p 0 h f o) refl
 
   pub lists-short : (r : Handed) → length o < 2 * h .lists → r ≡ refusedWith 12 → Hands (walkPlaces n d p) o o r
   lists-short r l q = hands-short (walkPlaces n d p) o _ gives (rw long l) r q
 
   pub lists-ready : 2 * h .lists ≤ length o → Ready (walkPlaces n d p) o
-  lists-ready l = record { whole = flatMap placeBytes (f .ls); is = gives; fits = rw long l }
+  lists-ready l = record { whole = flatMap placeBytes (f .at .ls); is = gives; fits = rw long l }
 
   pub lists-done : (o′ : List ℕ) (r : Handed) → 2 * h .lists ≤ length o → o′ ≡ leftBy (walkPlaces n d p) o → r ≡ acceptedWith (2 * h .lists)
       → Hands (walkPlaces n d p) o o′ r
@@ -146,7 +145,7 @@ module _ (d : List ℕ) (k : ℕ) (x : List ℕ) where
   abbrev Listed : Choice → Choice → Outcome (List ℕ) → Type 0
   Listed c₀ c w =
       ((c ≡ c₀) × (w ≡ given []))
-      ⊎ ((e : Entry) × (f : File) × (fileOf 16 d e ≡ given f) × (c ≡ choice (e .list) (e .kind)) × (w ≡ walkPlaces 16 d (e .list)))
+      ⊎ ((e : Entry) × (f : File) × (fileOf 16 d e ≡ given f) × (c ≡ choiceOf 16 d e) × (w ≡ walkPlaces 16 d (e .list)))
 
   listed : (es : List Entry) (fs : List File) (c : Choice) (j : ℕ) → each (fileOf 16 d) es ≡ given fs
       → Listed c (chosenIn 16 d false k x c j es) (listsFrom 16 d k j es)
@@ -155,7 +154,7 @@ module _ (d : List ℕ) (k : ℕ) (x : List ℕ) where
   listed (e ∷ es) fs c j h =
       let w = each-cons (fileOf 16 d) e es fs h in
       by-test (eqb j k)
-      (λ b. let q = eqb-true j k b in inr (e, w .0, w .2, rw b (num-past 16 d x k es (choice (e .list) (e .kind)) (j + 1) (omega arith)), rw b refl))
+      (λ b. let q = eqb-true j k b in inr (e, w .0, w .2, rw b (num-past 16 d x k es (choiceOf 16 d e) (j + 1) (omega arith)), rw b refl))
       (λ b. ⊎-elim (λ i. inl (rw b (i .0), rw b (i .1))) (λ i. inr (i .0, i .1, i .2, rw b (i .3), rw b (i .4))) (listed es (w .1) c (j + 1) (w .3)))
 
   module _ (t : Totals) (u : t ≡ totaled (totals 16 d false k x)) (o : List ℕ) where
@@ -185,7 +184,7 @@ module _ (d : List ℕ) (k : ℕ) (x : List ℕ) where
       number-none r n q = hands-over (listsOfNumber 16 d k) o o [] (none-listed n (which-lists z)) (omega arith) refl r q
 
       module _ (y : t .choice .found ≡ true) where
-        at-listed : Listed noChoice (t .choice) (listsOfNumber 16 d k) → FileAt 16 d (t .choice .list)
+        at-listed : Listed noChoice (t .choice) (listsOfNumber 16 d k) → Kept 16 d (t .choice .list) (t .choice .thread)
         at-listed (inl i) = absurd (clash (sym (ap (λ (a : Choice). a .found) (i .0)) ∙ y))
         at-listed (inr i) = let v = total-given d false k x t u z in chosen-at d (v .2 .es) (v .2 .catalog) (i .0) (i .1) (i .2) (t .choice) (i .3)
 
@@ -193,7 +192,7 @@ module _ (d : List ℕ) (k : ℕ) (x : List ℕ) where
         walk-listed (inl i) = absurd (clash (sym (ap (λ (a : Choice). a .found) (i .0)) ∙ y))
         walk-listed (inr i) = ap (λ (a : Choice). walkPlaces 16 d (a .list)) (i .3) ∙ sym (i .4)
 
-        pub number-at : FileAt 16 d (t .choice .list)
+        pub number-at : Kept 16 d (t .choice .list) (t .choice .thread)
         number-at = at-listed (which-lists z)
 
         pub number-done : (o′ : List ℕ) (r : Handed) → Hands (walkPlaces 16 d (t .choice .list)) o o′ r → Hands (listsOfNumber 16 d k) o o′ r

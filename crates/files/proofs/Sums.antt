@@ -99,7 +99,7 @@ module _ (n : ℕ) (d : List ℕ) (b : Bool) (j : ℕ) (x : List ℕ) where
   chosen-append c i [] gs = let e : i + 0 ≡ i = omega arith in rw e refl
   chosen-append c i (e ∷ es) gs =
       let q : i + suc (length es) ≡ i + 1 + length es = omega arith in
-      rw q (chosen-append (chosen n d b j x c i e) (i + 1) es gs)
+      rw q (chosen-append (chosen n d b j x c i e (followed n d (lists n d e))) (i + 1) es gs)
 
   -- one run after the other
   plus-plus : (t : Totals) (k m : ℕ) (es gs : List Entry) (fs hs : List File) (ls ms : List (List Place))
@@ -148,7 +148,7 @@ module _ (n : ℕ) (d : List ℕ) (b : Bool) (j : ℕ) (x : List ℕ) where
         let k : sizeOf n d (e .kind) h ≡ length (bytesIn (e .kind) (flatMap (bytesOf n d) ps)) = size-is n d sized (e .kind) ps h a refl refl in
         let u : t .links + length l ≡ t .links + 0 + (length l + 0) = omega arith in
         let r : t .blocks + (1 + blocksFor (sizeOf n d (e .kind) h)) ≡ t .blocks + (1 + blocksFor (length (bytesIn (e .kind) (flatMap (bytesOf n d) ps))) + 0) = rw k (omega arith) in
-        rw (eq-eqb _ _ z, g, a) (λ i. record { refusal = 0; entries = t .entries + 1; links = u i; blocks = r i; choice = chosen n d b j x (t .choice) (t .entries) e })
+        rw (eq-eqb _ _ z, g, a) (λ i. record { refusal = 0; entries = t .entries + 1; links = u i; blocks = r i; choice = chosen n d b j x (t .choice) (t .entries) e h })
 
     -- some entries whose files are given
     pub some-given : (es : List Entry) (t : Totals) (fs : List File) → t .refusal ≡ 0 → each (fileOf n d) es ≡ given fs

@@ -13,6 +13,7 @@ use Rattle.disk.specs.Disk.{sectors, onDisk, wordOf, bytesOf}
 use Rattle.files.specs.declared.Spot.{Spot}
 use Rattle.files.specs.declared.Thread.{Thread}
 use Rattle.files.specs.Contents.{bytesIn, pairsOf, listWalk}
+use Rattle.files.specs.Threads.{followed}
 
 -- at most `size` elements of y from `skip` on
 abbrev pub cutOf : (size skip : ℕ) → List ℕ → List ℕ
@@ -45,6 +46,11 @@ module _ (n : ℕ) (d : List ℕ) where
     pub is : listWalk n d p ≡ given ls
     pub on : all (onDisk n) (flatMap (pairsOf n d) ls) ≡ true
     pub size : length d ≡ 256 * sectors n
+
+  -- .. and h is what they come to
+  pub record Kept (p : Place) (h : Thread) : Type 0 where
+    pub at : FileAt p
+    pub thread : h ≡ followed n d (listWalk n d p)
 
   -- the bytes of a file by its first list and its type
   unfoldable pub fileBytes : Place → ℕ → Outcome (List ℕ)

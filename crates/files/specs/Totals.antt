@@ -18,16 +18,16 @@ use Rattle.files.specs.declared.Thread.{Thread}
 use Rattle.files.specs.declared.Choice.{Choice}
 use Rattle.files.specs.declared.Totals.{Totals}
 use Rattle.files.specs.Contents.{lists}
-use Rattle.files.specs.Threads.{followed, sizeOf}
+use Rattle.files.specs.Threads.{noThread, followed, sizeOf}
 use Rattle.files.specs.Survey.{blocksFor}
 
 -- no entry is chosen
 abbrev pub noChoice : Choice
-noChoice = record { found = false; list = place 0 0; kind = 0 }
+noChoice = record { found = false; list = place 0 0; kind = 0; thread = noThread 0 }
 
--- an entry's first list and its type are chosen
-abbrev pub choice : Place → ℕ → Choice
-choice p c = record { found = true; list = p; kind = c }
+-- an entry's first list, its type, and what its lists come to are chosen
+abbrev pub choice : Place → ℕ → Thread → Choice
+choice p c h = record { found = true; list = p; kind = c; thread = h }
 
 -- totals of nothing, with block 0 alone
 abbrev pub noneYet : Totals
@@ -67,9 +67,9 @@ module _ (n : ℕ) (d : List ℕ) (byName : Bool) (k : ℕ) (x : List ℕ) where
   abbrev pub picked : ℕ → Entry → Bool
   picked j e = cond byName (same x (shown (e .raw))) (eqb j k)
 
-  -- the choice after entry number j: the last that is asked for stands
-  abbrev pub chosen : Choice → ℕ → Entry → Choice
-  chosen c j e = cond (picked j e) (choice (e .list) (e .kind)) c
+  -- the choice after entry number j, h being what its lists come to: the last that is asked for stands
+  abbrev pub chosen : Choice → ℕ → Entry → Thread → Choice
+  chosen c j e h = cond (picked j e) (choice (e .list) (e .kind) h) c
 
   -- the totals with one entry more, h being what its lists come to; its refusal, where they refuse
   abbrev pub withThread : Totals → Entry → Thread → Totals
@@ -80,7 +80,7 @@ module _ (n : ℕ) (d : List ℕ) (byName : Bool) (k : ℕ) (x : List ℕ) where
         entries = t .entries + 1;
         links = t .links + h .lists;
         blocks = t .blocks + (1 + blocksFor (sizeOf n d (e .kind) h));
-        choice = chosen (t .choice) (t .entries) e;
+        choice = chosen (t .choice) (t .entries) e h;
       })
       (noTotals (h .refusal))
 

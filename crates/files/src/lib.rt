@@ -11,7 +11,7 @@ ghost use lib.ListN.{take};
 ghost use Rattle.lists.specs.Same.{same};
 ghost use Rattle.files.specs.Totals.{choice, noChoice, noneYet, noTotals, totaled, walkTotals, totals, withLink, Within, Bounded, Joined, Entered, Added, Linked, Ranged, Paged};
 ghost use Rattle.files.specs.Survey.{survey, noSurvey, surveyed, fetched};
-ghost use Rattle.files.specs.Copies.{Copied, Roomy, Whole, CopiedAll, FileAt, listBytes, walkBytes, fileBytes, startOf};
+ghost use Rattle.files.specs.Copies.{Copied, Roomy, Whole, CopiedAll, Kept, listBytes, walkBytes, fileBytes, startOf};
 ghost use Rattle.files.specs.Chosen.{walkPlaces, fileOfNumber, listsOfNumber};
 ghost use Rattle.files.specs.Threads.{headOf, noThread, endThread, runOf, followed, sizeOf};
 use catalog::FileEntry;
@@ -61,11 +61,12 @@ pub struct Thread {
     pub head: Place,
 }
 
-// An entry that was asked for: its first list and its type.
+// An entry that was asked for: its first list, its type, and what its lists come to.
 pub struct Choice {
     pub found: bool,
     pub list: Place,
     pub kind: u8,
+    pub thread: Thread,
 }
 
 // What a pass over the catalog comes to: the first refusal, or the number of entries, of lists, of archive blocks, and the entry asked for.
@@ -276,6 +277,7 @@ fn no_choice() -> Choice
         found: false,
         list: no_place(),
         kind: 0,
+        thread: no_thread(0),
     }
 }
 
@@ -299,14 +301,15 @@ fn picks(named: bool, number: u64, name: &[u8], j: u32, shown: Name) -> bool
 }
 
 // The new choice where it is taken, else the old one.
-fn choose(old: Choice, pick: bool, list: Place, kind: u8) -> Choice
-    ensures { λ r. ⌜ r ≡ cond pick (choice list kind) old ⌝ }
+fn choose(old: Choice, pick: bool, list: Place, kind: u8, h: Thread) -> Choice
+    ensures { λ r. ⌜ r ≡ cond pick (choice list kind h) old ⌝ }
 {
     if pick {
         return Choice {
             found: true,
             list: list,
             kind: kind,
+            thread: h,
         };
     }
     old
@@ -340,7 +343,7 @@ fn add_thread(
         entries: t.entries + 1,
         links: t.links + h.lists as u64,
         blocks: t.blocks + (1 + (size + 253) / 254),
-        choice: choose(old, pick, list, kind),
+        choice: choose(old, pick, list, kind, h),
     }
 }
 
@@ -630,11 +633,10 @@ fn file_start(disk: &[u8], per: u8, kind: u8, t: Thread) -> usize
 }
 
 // The bytes of a file by its first list and its type, its lists and pairs having been followed; refusal 12.
-fn get_data(disk: &[u8], per: u8, list: Place, kind: u8, out: &mut [u8]) -> Handed
-    requires { ⌜ FileAt per (now disk) list ⌝ }
+fn get_data(disk: &[u8], per: u8, list: Place, kind: u8, h: Thread, out: &mut [u8]) -> Handed
+    requires { ⌜ Kept per (now disk) list h ⌝ }
     ensures { λ r. ⌜ Hands (fileBytes per (now (disk .entry)) list kind) (now (out .entry)) (now (out .exit)) r ⌝ }
 {
-    let h = build_file(disk, per, list);
     let size = file_size(disk, per, kind, h) as usize;
     if out.len() < size {
         return refused(TRAY_SHORT);
@@ -656,7 +658,7 @@ pub fn file(disk: &[u8], number: u64, out: &mut [u8]) -> Handed
     if !c.found {
         return accepted(0);
     }
-    get_data(disk, 16, c.list, c.kind, out)
+    get_data(disk, 16, c.list, c.kind, c.thread, out)
 }
 
 // The bytes of the last entry whose shown name is `name`. Refusals 1 to 6, 18, 12.
@@ -671,7 +673,7 @@ pub fn fetch(disk: &[u8], name: &[u8], out: &mut [u8]) -> Handed
     if !c.found {
         return refused(NOT_ON_ROLL);
     }
-    get_data(disk, 16, c.list, c.kind, out)
+    get_data(disk, 16, c.list, c.kind, c.thread, out)
 }
 
 // Puts the places of the lists from `first` on into out, two bytes each, where these were followed and out has the space.
@@ -696,11 +698,10 @@ fn write_lists(disk: &[u8], per: u8, first: Place, out: &mut [u8])
 }
 
 // The places of the lists from a first list on, these having been followed; refusal 12.
-fn get_lists(disk: &[u8], per: u8, list: Place, out: &mut [u8]) -> Handed
-    requires { ⌜ FileAt per (now disk) list ⌝ }
+fn get_lists(disk: &[u8], per: u8, list: Place, h: Thread, out: &mut [u8]) -> Handed
+    requires { ⌜ Kept per (now disk) list h ⌝ }
     ensures { λ r. ⌜ Hands (walkPlaces per (now (disk .entry)) list) (now (out .entry)) (now (out .exit)) r ⌝ }
 {
-    let h = build_file(disk, per, list);
     let size = 2 * (h.lists as usize);
     if out.len() < size {
         return refused(TRAY_SHORT);
@@ -721,5 +722,5 @@ pub fn track_sector_lists(disk: &[u8], number: u64, out: &mut [u8]) -> Handed
     if !c.found {
         return accepted(0);
     }
-    get_lists(disk, 16, c.list, out)
+    get_lists(disk, 16, c.list, c.thread, out)
 }

@@ -6,7 +6,6 @@ pub get-data-spec : {M : Type 1} → statement M
 get-data-spec =
     tie.close
     (tie.spec
-    (λ c κs. search datas)  -- build-file-requires
     (λ c κs. search datas)  -- file-size-requires
     (λ c. search datas)  -- cast-size
     (λ c κs. search datas)  -- refused-requires

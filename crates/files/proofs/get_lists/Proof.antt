@@ -6,7 +6,6 @@ pub get-lists-spec : {M : Type 1} → statement M
 get-lists-spec =
     tie.close
     (tie.spec
-    (λ c κs. search listings)  -- build-file-requires
     (λ c. search listings)  -- cast-size
     (λ c. search listings)  -- mul-size
     (λ c κs. search listings)  -- refused-requires
