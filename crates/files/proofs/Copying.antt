@@ -13,7 +13,7 @@ use Rattle.disk.specs.declared.Place.{Place}
 use Rattle.disk.specs.Disk.{start, bytesOf}
 use Rattle.files.specs.declared.Spot.{Spot}
 use Rattle.files.specs.Contents.{pairAt, pairsOf}
-use Rattle.files.specs.Copies.{cutOf, Copied, Roomy, listBytes}
+use Rattle.files.specs.Copies.{cutOf, Copied, Roomy, listOf}
 use Rattle.files.proofs.Runs.{behind, stop, next, none-behind}
 
 -- ---- a part of two lists
@@ -101,15 +101,15 @@ module _ (n : ℕ) (d : List ℕ) (q : Place) (size : ℕ) (s : Spot) (o : List 
 pub ruleset sectors = (less-none, sector-within, sector-copied, needs)
 
 -- ---- the pairs of a list
-module _ (n : ℕ) (d : List ℕ) (p : Place) (size : ℕ) (s₀ : Spot) (o₀ : List ℕ) where
-  -- i pairs' sectors are copied
+module _ (n : ℕ) (d : List ℕ) (g : Place → List ℕ) (p : Place) (size : ℕ) (s₀ : Spot) (o₀ : List ℕ) where
+  -- what g gives of i pairs is copied
   pub record Pairs (i : ℕ) (s : Spot) (o : List ℕ) : Type 0 where
     pub count : i ≤ 121
     pub done : List Place
     pub split : pairsOf n d p ≡ done ++ behind n d p i
     pub room : Roomy size s₀ o₀
     pub long : length o ≡ length o₀
-    pub copied : Copied size (flatMap (bytesOf n d) done) s₀ o₀ o s
+    pub copied : Copied size (flatMap g done) s₀ o₀ o s
 
   pub pairs-none : Roomy size s₀ o₀ → Pairs 0 s₀ o₀
   unfolding pairsOf flatMap
@@ -117,33 +117,33 @@ module _ (n : ℕ) (d : List ℕ) (p : Place) (size : ℕ) (s₀ : Spot) (o₀ :
 
   module _ (i : ℕ) (s : Spot) (o : List ℕ) (c : Pairs i s o) where
     pub pairs-room : Roomy size s o
-    pairs-room = copied-roomy size (flatMap (bytesOf n d) (c .done)) o₀ o s₀ s (c .room) (c .copied)
+    pairs-room = copied-roomy size (flatMap g (c .done)) o₀ o s₀ s (c .room) (c .copied)
 
-    ends : behind n d p i ≡ [] → Copied size (listBytes n d p) s₀ o₀ o s
-    unfolding listBytes
+    ends : behind n d p i ≡ [] → Copied size (listOf n d g p) s₀ o₀ o s
+    unfolding listOf
     ends e =
         let q : pairsOf n d p ≡ c .done = c .split ∙ ap (λ (y : List Place). c .done ++ y) e ∙ append-nil (c .done) in
         rw q (c .copied)
 
-    pub pairs-stop : i < 121 → (q : Place) → q ≡ pairAt n d p i → q .track .0 ≡ 0 → Copied size (listBytes n d p) s₀ o₀ o s
+    pub pairs-stop : i < 121 → (q : Place) → q ≡ pairAt n d p i → q .track .0 ≡ 0 → Copied size (listOf n d g p) s₀ o₀ o s
     pairs-stop h q e z = ends (stop n d p i h q e z)
 
-    pub pairs-full : 121 ≤ i → Copied size (listBytes n d p) s₀ o₀ o s
+    pub pairs-full : 121 ≤ i → Copied size (listOf n d g p) s₀ o₀ o s
     pairs-full h = ends (none-behind n d p i h)
 
-    pub pairs-more : i < 121 → (q : Place) → q ≡ pairAt n d p i → (q .track .0 ≡ 0 → ⊥) → (r : Spot) (o′ : List ℕ) → Copied size (bytesOf n d q) s o o′ r
+    pub pairs-more : i < 121 → (q : Place) → q ≡ pairAt n d p i → (q .track .0 ≡ 0 → ⊥) → (r : Spot) (o′ : List ℕ) → Copied size (g q) s o o′ r
         → Pairs (i + 1) r o′
     pairs-more h q e z r o′ u =
         let k : behind n d p i ≡ q ∷ behind n d p (i + 1) = next n d p i h q e z in
-        let f : flatMap (bytesOf n d) (c .done ++ (q ∷ [])) ≡ flatMap (bytesOf n d) (c .done) ++ bytesOf n d q =
-        flatMap-append (bytesOf n d) (c .done) (q ∷ []) ∙ ap (λ (y : List ℕ). flatMap (bytesOf n d) (c .done) ++ y) (flatMap-one (bytesOf n d) q) in
+        let f : flatMap g (c .done ++ (q ∷ [])) ≡ flatMap g (c .done) ++ g q =
+        flatMap-append g (c .done) (q ∷ []) ∙ ap (λ (y : List ℕ). flatMap g (c .done) ++ y) (flatMap-one g q) in
         record {
           count = omega arith;
           done = c .done ++ (q ∷ []);
           split = c .split ∙ ap (λ (y : List Place). c .done ++ y) k ∙ sym (append-assoc (c .done) (q ∷ []) (behind n d p (i + 1)));
           room = c .room;
-          long = copied-long size (bytesOf n d q) o o′ s r pairs-room u ∙ c .long;
-          copied = rw f (copied-more size (flatMap (bytesOf n d) (c .done)) (bytesOf n d q) o₀ o o′ s₀ s r (c .room) (c .copied) u);
+          long = copied-long size (g q) o o′ s r pairs-room u ∙ c .long;
+          copied = rw f (copied-more size (flatMap g (c .done)) (g q) o₀ o o′ s₀ s r (c .room) (c .copied) u);
         }
 
 pub ruleset pairings = (pairs-none, pairs-room, pairs-stop, pairs-full, pairs-more, needs)

@@ -26,19 +26,19 @@ use Rattle.files.specs.declared.Spot.{Spot}
 use Rattle.files.specs.declared.Thread.{Thread}
 use Rattle.files.specs.Contents.{bytesIn, pairsOf, soundList, nextList, listWalk}
 use Rattle.files.specs.Threads.{headOf, sizeOf}
-use Rattle.files.specs.Copies.{cutOf, Copied, Roomy, Whole, CopiedAll, Kept, listBytes, walkBytes, fileBytes, startOf}
+use Rattle.files.specs.Copies.{cutOf, Copied, Roomy, Whole, CopiedAll, Kept, listOf, walkOf, walkBytes, fileBytes, startOf}
 use Rattle.files.proofs.Proper.{all-long, bytesIn-binary}
 use Rattle.files.proofs.Sums.{stated, first, size-is}
 use Rattle.files.proofs.Copying.{copied-none, copied-roomy, copied-long, copied-more}
 
 -- ---- the lists
-module _ (n : ℕ) (d : List ℕ) where
+module _ (n : ℕ) (d : List ℕ) (g : Place → List ℕ) where
   abbrev joinLists : List ℕ → Place → List ℕ
-  joinLists = joins (listBytes n d)
+  joinLists = joins (listOf n d g)
 
-  made-bytes : (o : Outcome (List Place)) → made joinLists [] o ≡ (o >>= λ ls. given (flatMap (listBytes n d) ls))
+  made-bytes : (o : Outcome (List Place)) → made joinLists [] o ≡ (o >>= λ ls. given (flatMap (listOf n d g) ls))
   made-bytes (refused r) = refl
-  made-bytes (given ls) = ap given (joined-is (listBytes n d) [] ls)
+  made-bytes (given ls) = ap given (joined-is (listOf n d g) [] ls)
 
   module _ (begin : Place) (size : ℕ) (s₀ : Spot) (o₀ : List ℕ) where
     -- k lists are copied, and p is the next
@@ -47,14 +47,14 @@ module _ (n : ℕ) (d : List ℕ) where
       pub count : k ≤ most
       pub done : List ℕ
       pub whole : List ℕ
-      pub total : walkBytes n d begin ≡ given whole
+      pub total : walkOf n d g begin ≡ given whole
       pub is : rest joinLists n (soundList n d) (nextList n d) (35 * n + 1) k done p ≡ given whole
       pub room : Roomy size s₀ o₀
       pub long : length o ≡ length o₀
       pub copied : Copied size done s₀ o₀ o s
 
-    pub lists-none : (most : ℕ) → most ≡ 35 * n + 1 → Roomy size s₀ o₀ → Whole (walkBytes n d begin) → Lists most 0 begin s₀ o₀
-    unfolding walkBytes listWalk
+    pub lists-none : (most : ℕ) → most ≡ 35 * n + 1 → Roomy size s₀ o₀ → Whole (walkOf n d g begin) → Lists most 0 begin s₀ o₀
+    unfolding walkOf listWalk
     lists-none most e m w =
         record {
           budget = e;
@@ -75,22 +75,22 @@ module _ (n : ℕ) (d : List ℕ) where
       lists-room = copied-roomy size (c .done) o₀ o s₀ s (c .room) (c .copied)
 
       -- the budget is never used up
-      pub lists-full : most ≤ k → CopiedAll size (walkBytes n d begin) s₀ o₀ o
+      pub lists-full : most ≤ k → CopiedAll size (walkOf n d g begin) s₀ o₀ o
       lists-full h =
           let l = rest-within joinLists n (soundList n d) (nextList n d) (35 * n + 1) k (c .done) p (c .whole) (c .is) in
           absurd (omega (arith, c .budget))
 
-      module _ (r : Spot) (o′ : List ℕ) (u : Copied size (listBytes n d p) s o o′ r) (l : Bool) (e : l ≡ eqb (byteOf n d p 1) 0) where
-        more : Copied size (c .done ++ listBytes n d p) s₀ o₀ o′ r
-        more = copied-more size (c .done) (listBytes n d p) o₀ o o′ s₀ s r (c .room) (c .copied) u
+      module _ (r : Spot) (o′ : List ℕ) (u : Copied size (listOf n d g p) s o o′ r) (l : Bool) (e : l ≡ eqb (byteOf n d p 1) 0) where
+        more : Copied size (c .done ++ listOf n d g p) s₀ o₀ o′ r
+        more = copied-more size (c .done) (listOf n d g p) o₀ o o′ s₀ s r (c .room) (c .copied) u
 
         pub lists-long : length o′ ≡ length o₀
-        lists-long = copied-long size (listBytes n d p) o o′ s r lists-room u ∙ c .long
+        lists-long = copied-long size (listOf n d g p) o o′ s r lists-room u ∙ c .long
 
-        pub lists-last : l ≡ true → CopiedAll size (walkBytes n d begin) s₀ o₀ o′
+        pub lists-last : l ≡ true → CopiedAll size (walkOf n d g begin) s₀ o₀ o′
         unfolding nextList
         lists-last t =
-            let q : c .whole ≡ c .done ++ listBytes n d p =
+            let q : c .whole ≡ c .done ++ listOf n d g p =
             rest-last joinLists n (soundList n d) (nextList n d) (35 * n + 1) k (c .done) p (c .whole) (c .is) (rw (← e, t) refl) in
             record { puts = λ y z. let w : y ≡ c .whole = let v = c .total in cc in more .puts ∙ rw (w, q) refl }
 
@@ -100,7 +100,7 @@ module _ (n : ℕ) (d : List ℕ) where
             record {
               budget = c .budget;
               count = omega arith;
-              done = c .done ++ listBytes n d p;
+              done = c .done ++ listOf n d g p;
               whole = c .whole;
               total = c .total;
               is = rest-on joinLists n (soundList n d) (nextList n d) (35 * n + 1) k (c .done) p (c .whole) (c .is) a (rw (← e, t, z) refl);
@@ -133,7 +133,7 @@ cut-nil : (x y : ℕ) → cutOf x y [] ≡ []
 cut-nil x y = rw (drop-nil {A = ℕ} y, take-nil {A = ℕ} x) refl
 
 module _ (n : ℕ) (d : List ℕ) (size : length d ≡ 256 * sectors n) where
-  cut-4 : (ps : List Place) → all (onDisk n) ps ≡ true
+  pub cut-4 : (ps : List Place) → all (onDisk n) ps ≡ true
       → cutOf (cond (leb (4 + wordOf n d (headOf ps) 2) (256 * length ps)) (wordOf n d (headOf ps) 2) (256 * length ps))
       (cond (leb (4 + wordOf n d (headOf ps) 2) (256 * length ps)) 4 0) (flatMap (bytesOf n d) ps)
       ≡ bytesIn 4 (flatMap (bytesOf n d) ps)
@@ -154,13 +154,12 @@ module _ (n : ℕ) (d : List ℕ) (size : length d ≡ 256 * sectors n) where
       by-test (eqb kind 4) (λ e. let q = eqb-true kind 4 e in rw (q, b, c) (cut-4 ps a))
       (λ e. let q = eqb-false kind 4 e in rw (e, bytesIn-binary kind (flatMap (bytesOf n d) ps) q) refl)
 
-  -- the sectors by lists are those by pairs
-  joined-lists : (ls : List Place) → flatMap (listBytes n d) ls ≡ flatMap (bytesOf n d) (flatMap (pairsOf n d) ls)
-  unfolding flatMap listBytes
-  joined-lists [] = refl
-  joined-lists (l ∷ ls) =
-      ap (λ (y : List ℕ). flatMap (bytesOf n d) (pairsOf n d l) ++ y) (joined-lists ls)
-      ∙ sym (flatMap-append (bytesOf n d) (pairsOf n d l) (flatMap (pairsOf n d) ls))
+-- what g gives of the pairs, list by list
+pub joined-lists : (n : ℕ) (d : List ℕ) (g : Place → List ℕ) (ls : List Place) → flatMap (listOf n d g) ls ≡ flatMap g (flatMap (pairsOf n d) ls)
+unfolding flatMap listOf
+joined-lists n d g [] = refl
+joined-lists n d g (l ∷ ls) =
+    ap (λ (y : List ℕ). flatMap g (pairsOf n d l) ++ y) (joined-lists n d g ls) ∙ sym (flatMap-append g (pairsOf n d l) (flatMap (pairsOf n d) ls))
 
 -- ---- the bytes of a file: h is what its lists come to
 module _ (n : ℕ) (d : List ℕ) (p : Place) (kind : ℕ) (h : Thread) (f : Kept n d p h) (o : List ℕ) where
@@ -182,8 +181,8 @@ module _ (n : ℕ) (d : List ℕ) (p : Place) (kind : ℕ) (h : Thread) (f : Kep
   data-room m k l = record { within = omega arith; fits = l }
 
   walked : walkBytes n d p ≡ given (flatMap (bytesOf n d) (flatMap (pairsOf n d) (f .at .ls)))
-  unfolding walkBytes
-  walked = rw (f .at .is) (ap given (joined-lists n d (f .at .size) (f .at .ls)))
+  unfolding walkOf
+  walked = rw (f .at .is) (ap given (joined-lists n d (bytesOf n d) (f .at .ls)))
 
   pub data-whole : Whole (walkBytes n d p)
   data-whole = record { whole = flatMap (bytesOf n d) (flatMap (pairsOf n d) (f .at .ls)); is = walked }

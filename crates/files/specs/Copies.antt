@@ -56,13 +56,20 @@ module _ (n : ℕ) (d : List ℕ) where
   unfoldable pub fileBytes : Place → ℕ → Outcome (List ℕ)
   fileBytes p kind = listWalk n d p >>= λ ls. given (bytesIn kind (flatMap (bytesOf n d) (flatMap (pairsOf n d) ls)))
 
-  -- the sectors of a list's pairs, joined
-  unfoldable pub listBytes : Place → List ℕ
-  listBytes p = flatMap (bytesOf n d) (pairsOf n d p)
+  -- what h gives of a list's pairs, joined
+  unfoldable pub listOf : (Place → List ℕ) → Place → List ℕ
+  listOf h p = flatMap h (pairsOf n d p)
 
-  -- those of all lists from p on
-  unfoldable pub walkBytes : Place → Outcome (List ℕ)
-  walkBytes p = listWalk n d p >>= λ ls. given (flatMap listBytes ls)
+  -- the same of all lists from p on
+  unfoldable pub walkOf : (Place → List ℕ) → Place → Outcome (List ℕ)
+  walkOf h p = listWalk n d p >>= λ ls. given (flatMap (listOf h) ls)
+
+  -- their sectors
+  abbrev pub listBytes : Place → List ℕ
+  listBytes = listOf (bytesOf n d)
+
+  abbrev pub walkBytes : Place → Outcome (List ℕ)
+  walkBytes = walkOf (bytesOf n d)
 
   -- where a file's bytes begin in its joined sectors
   unfoldable pub startOf : ℕ → Thread → ℕ

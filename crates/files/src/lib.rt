@@ -106,7 +106,7 @@ fn no_place() -> Place
 }
 
 // Pair i of a list.
-fn parse_track_sector_pair(disk: &[u8], per: u8, p: Place, i: u8) -> Place
+pub fn parse_track_sector_pair(disk: &[u8], per: u8, p: Place, i: u8) -> Place
     ensures { λ r. ⌜ r ≡ pairAt per (now (disk .entry)) p i ⌝ }
 {
     let t = byte_of(disk, per, p, 12 + 2 * (i as u16));
@@ -173,7 +173,7 @@ fn whole_link(disk: &[u8], per: u8, p: Place) -> bool
 }
 
 // A list whose link has track zero is the last.
-fn last_list(disk: &[u8], per: u8, p: Place) -> bool
+pub fn last_list(disk: &[u8], per: u8, p: Place) -> bool
     ensures { λ r. ⌜ r ≡ eqb (byteOf per (now (disk .entry)) p 1) 0 ⌝ }
 {
     byte_of(disk, per, p, 1) == 0

@@ -1,10 +1,11 @@
 use Rattle.files.proofs.Datas.{Lists, copies}
 use Prim.Native.Nat.{_-_}
+use Rattle.disk.specs.Disk.{bytesOf}
 use Rattle.files.proofs.copy_lists.Statement.{statement}
 use Rattle.files.proofs.copy_lists.Tie as tie
 
 abbrev Inv-loop : tie.InvT-loop
-Inv-loop disk per out₀ size most p₀ k₀ s₀ out p k s = Lists per disk p₀ size s₀ out₀ most k p s out
+Inv-loop disk per out₀ size most p₀ k₀ s₀ out p k s = Lists per disk (bytesOf per disk) p₀ size s₀ out₀ most k p s out
 
 abbrev μ-loop : tie.MeasureT-loop
 μ-loop disk per out₀ size most p₀ k₀ s₀ out p k s = most - k

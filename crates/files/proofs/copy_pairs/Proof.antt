@@ -1,10 +1,11 @@
 use Rattle.files.proofs.Copying.{Pairs, pairings}
 use Prim.Native.Nat.{_-_}
+use Rattle.disk.specs.Disk.{bytesOf}
 use Rattle.files.proofs.copy_pairs.Statement.{statement}
 use Rattle.files.proofs.copy_pairs.Tie as tie
 
 abbrev Inv-loop : tie.InvT-loop
-Inv-loop disk per p out₀ size s₀ i₀ out s i = Pairs per disk p size s₀ out₀ i s out
+Inv-loop disk per p out₀ size s₀ i₀ out s i = Pairs per disk (bytesOf per disk) p size s₀ out₀ i s out
 
 abbrev μ-loop : tie.MeasureT-loop
 μ-loop disk per p out₀ size s₀ i₀ out s i = 121 - i
