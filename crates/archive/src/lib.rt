@@ -1,0 +1,78 @@
+// Archives: the contents of a disk in chained blocks (document 01's return, which the Rust has not).
+ghost use mathlib.Core.Path.{_≡_};
+ghost use Rattle.archive.specs.Archive.{firstBlock};
+ghost use Rattle.archive.specs.Blocks.{nameField, entryBytes, dataBytes};
+use lists::copy_at;
+use lists::part;
+
+// Block 0: the volume, the first entry block, the number of blocks.
+pub fn first_block(volume: u8, next: u16, blocks: u16) -> [u8; 256]
+    ensures { λ r. ⌜ r ≡ firstBlock volume next blocks ⌝ }
+{
+    let head = [
+        volume,
+        (next % 256) as u8,
+        (next / 256 % 256) as u8,
+        (blocks % 256) as u8,
+        (blocks / 256 % 256) as u8,
+    ];
+    let mut block = [0u8; 256];
+    copy_at(&head, &mut block, 0);
+    block
+}
+
+// The first 30 bytes of a name, zeros behind them.
+fn name_field(name: &[u8]) -> [u8; 30]
+    ensures { λ r. ⌜ r ≡ nameField (now (name .entry)) ⌝ }
+{
+    let mut field = [0u8; 30];
+    copy_at(part(name, 0, 30), &mut field, 0);
+    field
+}
+
+// An entry block: of the name its first 30 bytes, of the size its low three bytes.
+pub fn entry_block(
+    next: u16,
+    first: u16,
+    size: u32,
+    kind: u8,
+    locked: u8,
+    name: &[u8],
+    count: u16,
+) -> [u8; 256]
+    ensures { λ r. ⌜ r ≡ entryBytes next first size kind locked (now (name .entry)) count ⌝ }
+{
+    let field = name_field(name);
+    let head = [
+        (next % 256) as u8,
+        (next / 256 % 256) as u8,
+        (first % 256) as u8,
+        (first / 256 % 256) as u8,
+        kind,
+        locked,
+        part(name, 0, 30).len() as u8,
+    ];
+    let tail = [
+        (count % 256) as u8,
+        (count / 256 % 256) as u8,
+        (size % 256) as u8,
+        (size / 256 % 256) as u8,
+        (size / 65536 % 256) as u8,
+    ];
+    let mut block = [0u8; 256];
+    copy_at(&head, &mut block, 0);
+    copy_at(&field, &mut block, 7);
+    copy_at(&tail, &mut block, 37);
+    block
+}
+
+// A data block: the next one's number, and of xs the first 254 bytes.
+pub fn data_block(next: u16, xs: &[u8]) -> [u8; 256]
+    ensures { λ r. ⌜ r ≡ dataBytes next (now (xs .entry)) ⌝ }
+{
+    let head = [(next % 256) as u8, (next / 256 % 256) as u8];
+    let mut block = [0u8; 256];
+    copy_at(&head, &mut block, 0);
+    copy_at(part(xs, 0, 254), &mut block, 2);
+    block
+}
