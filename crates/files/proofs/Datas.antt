@@ -75,7 +75,7 @@ module _ (n : ℕ) (d : List ℕ) (g : Place → List ℕ) where
       lists-room = copied-roomy size (c .done) o₀ o s₀ s (c .room) (c .copied)
 
       -- the budget is never used up
-      pub lists-full : most ≤ k → CopiedAll size (walkOf n d g begin) s₀ o₀ o
+      pub lists-full : most ≤ k → CopiedAll size (walkOf n d g begin) s₀ o₀ o s
       lists-full h =
           let l = rest-within joinLists n (soundList n d) (nextList n d) (35 * n + 1) k (c .done) p (c .whole) (c .is) in
           absurd (omega (arith, c .budget))
@@ -87,12 +87,12 @@ module _ (n : ℕ) (d : List ℕ) (g : Place → List ℕ) where
         pub lists-long : length o′ ≡ length o₀
         lists-long = copied-long size (listOf n d g p) o o′ s r lists-room u ∙ c .long
 
-        pub lists-last : l ≡ true → CopiedAll size (walkOf n d g begin) s₀ o₀ o′
+        pub lists-last : l ≡ true → CopiedAll size (walkOf n d g begin) s₀ o₀ o′ r
         unfolding nextList
         lists-last t =
             let q : c .whole ≡ c .done ++ listOf n d g p =
             rest-last joinLists n (soundList n d) (nextList n d) (35 * n + 1) k (c .done) p (c .whole) (c .is) (rw (← e, t) refl) in
-            record { puts = λ y z. let w : y ≡ c .whole = let v = c .total in cc in more .puts ∙ rw (w, q) refl }
+            record { is = λ y z. let w : y ≡ c .whole = let v = c .total in cc in rw (w, q) more }
 
         pub lists-more : l ≡ false → k < most → (a : Place) → a ≡ linkOf n d p → Lists most (k + 1) a r o′
         unfolding nextList
@@ -187,11 +187,11 @@ module _ (n : ℕ) (d : List ℕ) (p : Place) (kind : ℕ) (h : Thread) (f : Kep
   pub data-whole : Whole (walkBytes n d p)
   data-whole = record { whole = flatMap (bytesOf n d) (flatMap (pairsOf n d) (f .at .ls)); is = walked }
 
-  pub data-done : (m k : ℕ) (o′ : List ℕ) (r : Handed) → m ≡ sizeOf n d kind h → m ≤ length o → k ≡ startOf n d kind h
-      → CopiedAll m (walkBytes n d p) (record { at = 0; skip = k }) o o′ → r ≡ acceptedWith m → Hands (fileBytes n d p kind) o o′ r
-  data-done m k o′ r e l q c z =
+  pub data-done : (m k : ℕ) (o′ : List ℕ) (r : Handed) (s : Spot) → m ≡ sizeOf n d kind h → m ≤ length o → k ≡ startOf n d kind h
+      → CopiedAll m (walkBytes n d p) (record { at = 0; skip = k }) o o′ s → r ≡ acceptedWith m → Hands (fileBytes n d p kind) o o′ r
+  data-done m k o′ r s₁ e l q c z =
       let x : List ℕ = bytesIn kind (flatMap (bytesOf n d) (flatMap (pairsOf n d) (f .at .ls))) in
-      let a : o′ ≡ put 0 (cutOf (m - 0) k (flatMap (bytesOf n d) (flatMap (pairsOf n d) (f .at .ls)))) o = c .puts _ walked in
+      let a : o′ ≡ put 0 (cutOf (m - 0) k (flatMap (bytesOf n d) (flatMap (pairsOf n d) (f .at .ls)))) o = c .is _ walked .puts in
       let b : m - 0 ≡ sizeOf n d kind h = omega arith in
       let i : cutOf (m - 0) k (flatMap (bytesOf n d) (flatMap (pairsOf n d) (f .at .ls))) ≡ x =
       rw (b, q) (cut-is n d (f .at .size) kind _ h (f .at .on) (ap (λ (y : Thread). y .pairs) thread) (ap (λ (y : Thread). y .head) thread)) in

@@ -597,10 +597,10 @@ pub fn track_sector_pairs(disk: &[u8], track: Track, sector: Sector, out: &mut [
     accepted(size)
 }
 
-// Copies what is wanted of the sectors of all lists from `first` on, where these were followed before.
-fn copy_lists(disk: &[u8], per: u8, first: Place, out: &mut [u8], size: usize, start: Spot)
+// Copies what is wanted of the sectors of all lists from `first` on, where these were followed before; the spot behind it.
+fn copy_lists(disk: &[u8], per: u8, first: Place, out: &mut [u8], size: usize, start: Spot) -> Spot
     requires { ⌜ Roomy size start (now out) × Whole (walkBytes per (now disk) first) ⌝ }
-    ensures { λ _. ⌜ CopiedAll size (walkBytes per (now (disk .entry)) first) start (now (out .entry)) (now (out .exit)) ⌝ }
+    ensures { λ r. ⌜ CopiedAll size (walkBytes per (now (disk .entry)) first) start (now (out .entry)) (now (out .exit)) r ⌝ }
 {
     let most = chain_budget(per);
     let mut p = first;
@@ -609,11 +609,12 @@ fn copy_lists(disk: &[u8], per: u8, first: Place, out: &mut [u8], size: usize, s
     while k < most {
         s = copy_pairs(disk, per, p, out, size, s);
         if last_list(disk, per, p) {
-            return;
+            return s;
         }
         p = link_of(disk, per, p);
         k += 1;
     }
+    s
 }
 
 // Where a file's bytes begin in its joined sectors: behind address and length, where the stated length fits.
