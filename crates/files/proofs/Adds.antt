@@ -72,7 +72,7 @@ pub ruleset chooses = (picks-name, picks-number, choose-new, choose-old, needs)
 
 -- ---- one entry more
 -- the shown name is the front of its letters
-front-name : (raw : List ℕ) → take (nameOf raw .length) (nameOf raw .letters) ≡ shown raw
+pub front-name : (raw : List ℕ) → take (nameOf raw .length) (nameOf raw .letters) ≡ shown raw
 unfolding padded
 front-name raw = take-at (shown raw) _ (length (shown raw)) refl
 

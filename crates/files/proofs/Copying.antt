@@ -27,7 +27,7 @@ take-two zero u v = let e : 0 - length u ≡ 0 = omega arith in rw e refl
 take-two (suc a) [] v = let e : suc a - 0 ≡ suc a = omega arith in rw e refl
 take-two (suc a) (x ∷ u) v = let e : suc a - suc (length u) ≡ a - length u = omega arith in rw e (ap (λ (t : List ℕ). x ∷ t) (take-two a u v))
 
-cut-two : (size skip : ℕ) (u v : List ℕ) → cutOf size skip (u ++ v) ≡ cutOf size skip u ++ cutOf (size - length (cutOf size skip u)) (skip - length u) v
+pub cut-two : (size skip : ℕ) (u v : List ℕ) → cutOf size skip (u ++ v) ≡ cutOf size skip u ++ cutOf (size - length (cutOf size skip u)) (skip - length u) v
 cut-two size skip u v =
     let l : size - length (drop skip u) ≡ size - length (take size (drop skip u)) = rw length-take (omega arith) in
     rw (drop-two skip u v, take-two size (drop skip u) (drop (skip - length u) v), l) refl

@@ -4,10 +4,12 @@ use mathlib.Core.List.{List}
 use Prim.Native.Nat.{ℕ, _+_, _-_, _<_, _≤_}
 use native.Mathlib.Omega.{arith}
 use lib.ListN.{length, replicate, length-replicate}
-use borrow.Author.Tests.{le-leb, lt-leb}
+use lib.Dec.{leb}
+use borrow.Author.Tests.{le-leb, lt-leb, leb-true}
 use borrow.Author.Needs.{needs}
 use Rattle.lists.specs.Fill.{put, placed}
 use Rattle.lists.proofs.Put.{Put, put-is}
+use Rattle.lists.proofs.Split.{by-test}
 
 module _ (at : ℕ) (x d : List ℕ) where
   pub placed-past : length d < at → d ≡ placed at x d
@@ -36,3 +38,9 @@ pub ruleset placing = (placed-past, placed-short, placed-fits, filled-short, fil
 pub placed-put : (at : ℕ) (x d o : List ℕ) → o ≡ placed at x d → at + length x ≤ length d → Put at x d o
 unfolding placed
 placed-put at x d o e l = put-is (e ∙ rw (le-leb (at + length x) (length d) l) refl) l
+
+-- the space stays as long as it was
+pub length-placed : (at : ℕ) (x d : List ℕ) → length (placed at x d) ≡ length d
+unfolding placed
+length-placed at x d =
+    by-test (leb (at + length x) (length d)) (λ e. rw e (put-is {at = at} {x = x} {d = d} refl (leb-true _ _ e) .long)) (λ e. rw e refl)

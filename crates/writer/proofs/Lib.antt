@@ -1,0 +1,9 @@
+pub mod Emits
+pub mod Collects
+pub mod Pieces
+pub mod Heads
+pub mod Sources
+pub mod Entries
+pub mod Pages
+pub mod Archives
+pub mod Calls
