@@ -17,7 +17,7 @@ use Rattle.stream.specs.Stream.{image}
 use Rattle.stream.proofs.Sizes.{sized-image}
 use Rattle.files.specs.Survey.{blocks}
 use Rattle.archive.specs.Archive.{archive, archiveOf, check}
-use Rattle.archive.proofs.Blocks.{length-archive}
+use Rattle.archive.proofs.Blocks.{length-archive, proper-short}
 use Rattle.archive.proofs.Archive.{archive-injective, writes-archive, check-passes}
 use Rattle.agreement.specs.Agreement.{Disk, flat, nibbles, OfBytes, contentsOf, EqualContents, ImageOf, Agreement}
 
@@ -63,14 +63,14 @@ one-archive a b d e o u h k c c′ p q l m eq =
 pub agreement : Agreement
 agreement =
     record {
-      equal = λ a b o u d e h k v w p q.
-          let x = passed-is a d v h .0 p in
-          let y = passed-is b e w k .0 q in (
+      equal = λ a b o u d e h k v w n m f g p q.
+          let x = passed-is a d v h .0 (sym f ∙ p) in
+          let y = passed-is b e w k .0 (sym g ∙ q) in (
             (λ s. one-archive a b d e o u h k (x .0) (y .0) (x .1) (y .1) (x .2) (y .2) (sym (x .3) ∙ s ∙ y .3)),
             λ s. cc (x .1, x .3, y .1, y .3, s .1, s .2),
           );
       own = λ a o d h c p l before after r room k.
-          let long : length (archive c) ≡ 256 * blocks c = length-archive c (proper a d o h c p) in
+          let long : length (archive c) ≡ 256 * blocks c = length-archive c (proper-short (proper a d o h c p)) in
           let w = writes-archive 16 d (archive c) .1 (c, sym (same-contents a d h) ∙ p, l, refl) in
           let g : handed (archiveOf 16 d) before ≡ given (archive c) = handed-fits (archiveOf 16 d) before w (omega arith) in
           let n : r ≡ acceptedWith (length (archive c)) = rw g at (k .answer) in
@@ -79,9 +79,9 @@ agreement =
           ap (take (r .length)) (hands-left (archive c) k w (omega arith)) ∙ take-at (archive c) _ (r .length) (sym size) in (
             ap (λ (x : Handed). x .refusal) n,
             size ∙ long,
-            λ b u e j. (
-              (λ z. let y = passed-is b e (take (r .length) after) j .0 z in one-archive a b d e o u h j c (y .0) p (y .1) l (y .2) (sym f ∙ y .3)),
-              λ s. passed-is b e (take (r .length) after) j .1 (c, cc (p, s .1, s .2), l, f),
+            λ b u e j m t. (
+              (λ z. let y = passed-is b e (take (r .length) after) j .0 (sym t ∙ z) in one-archive a b d e o u h j c (y .0) p (y .1) l (y .2) (sym f ∙ y .3)),
+              λ s. t ∙ passed-is b e (take (r .length) after) j .1 (c, cc (p, s .1, s .2), l, f),
             ),
           );
     }

@@ -1,6 +1,6 @@
 -- Demand 3, as one claim about the calls' arguments and answers, for all pairings of flat and nibbles: document 01, "Return", its last lines.
--- `Hands (image s) ..` is the promise of denibblize, `Hands (archiveOf 16 d) ..` that of the archive writer, and `number (check 16 d a)` that of the
--- checker: the claim speaks of what these promise, and of nothing else.
+-- `Denibblized`, `Wrote` and `Checked` are the promises of `stream::denibblize`, `writer::write_archive` and `writer::check_archive`, word for word: the
+-- claim speaks of what these were handed, of what they answered and of what they left in the space lent to them, and of nothing else.
 use mathlib.Core.Path.{_≡_}
 use mathlib.Core.Logic.{_↔_}
 use mathlib.Core.List.{List}
@@ -8,11 +8,11 @@ use Prim.Native.Nat.{ℕ, _*_, _≤_}
 use lib.ListN.{length, take}
 use Rattle.lists.specs.Fill.{Bytes}
 use Rattle.outcome.specs.declared.Handed.{Handed}
-use Rattle.outcome.specs.Outcome.{Outcome, given, _>>=_, number, Hands}
+use Rattle.outcome.specs.Outcome.{Outcome, given, _>>=_}
 use Rattle.files.specs.Contents.{Contents, contents}
 use Rattle.files.specs.Survey.{blocks}
-use Rattle.archive.specs.Archive.{archiveOf, check}
-use Rattle.stream.specs.Stream.{image}
+use Rattle.archive.specs.Archive.{Wrote, Checked}
+use Rattle.stream.specs.Stream.{image, Denibblized}
 
 -- a disk as it arrives: flat, or as nibbles
 pub data Disk : Type 0 where
@@ -36,16 +36,16 @@ EqualContents a b = (c : Contents) × (contentsOf a ≡ given c) × (contentsOf 
 -- e is what writer and checker are handed for a disk: the flat disk itself, or the bytes that a call of denibblize wrote
 abbrev pub ImageOf : Disk → List ℕ → Type 0
 ImageOf (flat d) e = d ≡ e
-ImageOf (nibbles s) e = (before after : List ℕ) × (r : Handed) × Hands (image s) before after r × (r .refusal ≡ 0) × (e ≡ take 143360 after)
+ImageOf (nibbles s) e = (before after : List ℕ) × (r : Handed) × Denibblized s before after r × (r .refusal ≡ 0) × (e ≡ take 143360 after)
 
 -- demand 3
 pub record Agreement : Type 0 where
   -- where the checker passes two archives, each against its own disk, the archives are equal exactly when the disks have equal contents
   pub equal : (a b : Disk) → OfBytes a → OfBytes b → (d e : List ℕ) → ImageOf a d → ImageOf b e
-      → (v w : List ℕ) → number (check 16 d v) ≡ 0 → number (check 16 e w) ≡ 0 → ((v ≡ w) ↔ EqualContents a b)
+      → (v w : List ℕ) (p q : ℕ) → Checked d v p → Checked e w q → p ≡ 0 → q ≡ 0 → ((v ≡ w) ↔ EqualContents a b)
   -- what is written into enough lent space is passed against exactly the disks with equal contents
   pub own : (a : Disk) → OfBytes a → (d : List ℕ) → ImageOf a d → (c : Contents) → contentsOf a ≡ given c → blocks c ≤ 4096
-      → (before after : List ℕ) (r : Handed) → 256 * blocks c ≤ length before → Hands (archiveOf 16 d) before after r
+      → (before after : List ℕ) (r : Handed) → 256 * blocks c ≤ length before → Wrote d before after r
       → (r .refusal ≡ 0)
       × (r .length ≡ 256 * blocks c)
-      × ((b : Disk) → OfBytes b → (e : List ℕ) → ImageOf b e → ((number (check 16 e (take (r .length) after)) ≡ 0) ↔ EqualContents a b))
+      × ((b : Disk) → OfBytes b → (e : List ℕ) → ImageOf b e → (p : ℕ) → Checked e (take (r .length) after) p → ((p ≡ 0) ↔ EqualContents a b))

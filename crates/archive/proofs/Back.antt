@@ -22,7 +22,7 @@ use Rattle.lists.proofs.Laws.{length-padded}
 use Rattle.lists.specs.Fill.{padded}
 use Rattle.lists.specs.Words.{wordAt, le2, le3}
 use Rattle.archive.proofs.Steps.{entries-none, entry-empty, entry-data, data-last, data-more}
-use Rattle.archive.proofs.Blocks.{length-data, length-first, length-entry, length-archive}
+use Rattle.archive.proofs.Blocks.{length-data, length-first, length-entry, length-archive, proper-short}
 
 -- ---- what an entry block says
 -- behind 30 elements
@@ -211,7 +211,7 @@ archive-back c ps l =
     let n = blocksIn (c .files) in
     let v : List ℕ = firstBlock (c .volume) (ifAny (c .files) 1) (blocks c) in
     let a : List ℕ = v ++ entryChain 1 (c .files) in
-    let e : length a ≡ 256 * (1 + n) = length-archive c ps in
+    let e : length a ≡ 256 * (1 + n) = length-archive c (proper-short ps) in
     let k : length a / 256 - 1 ≡ n = omega arith in
     let f : length v ≡ 256 = length-first (c .volume) (ifAny (c .files) 1) (blocks c) in
     let g : getD a 0 0 ≡ c .volume = unfold firstBlock padded in refl in

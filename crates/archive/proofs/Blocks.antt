@@ -37,16 +37,24 @@ length-chain zero b xs = refl
 length-chain (suc k) b xs =
     rw (length-append, length-data (cond (eqb k 0) 0 (b + 1)) (take 254 xs) (rw length-take (omega arith)), length-chain k (b + 1) (drop 254 xs)) (omega arith)
 
+-- names that fit their field
+abbrev pub Short : List File → Type 0
+Short = Every (λ (f : File). length (f .name) ≤ 30)
+
+pub proper-short : {fs : List File} → Every Proper fs → Short fs
+proper-short none = none
+proper-short (more p ps) = more (p .nameLength) (proper-short ps)
+
 -- the entries with their data
-pub length-entries : (b : ℕ) {fs : List File} → Every Proper fs → length (entryChain b fs) ≡ 256 * blocksIn fs
+pub length-entries : (b : ℕ) {fs : List File} → Short fs → length (entryChain b fs) ≡ 256 * blocksIn fs
 unfolding entryChain blocksIn
 length-entries b none = refl
 length-entries b (more {x = f} {xs = fs} p ps) =
     let after = b + 1 + dataBlocks f in
-    rw (length-append, length-append, length-entry (ifAny fs after) (cond (eqb (dataBlocks f) 0) 0 (b + 1)) (length (f .bytes)) f (p .nameLength), length-chain (dataBlocks f) (b + 1) (f .bytes), length-entries after ps) (omega arith)
+    rw (length-append, length-append, length-entry (ifAny fs after) (cond (eqb (dataBlocks f) 0) 0 (b + 1)) (length (f .bytes)) f p, length-chain (dataBlocks f) (b + 1) (f .bytes), length-entries after ps) (omega arith)
 
 -- the whole
-pub length-archive : (c : Contents) → Every Proper (c .files) → length (archive c) ≡ 256 * blocks c
+pub length-archive : (c : Contents) → Short (c .files) → length (archive c) ≡ 256 * blocks c
 unfolding archive
 length-archive c ps =
     rw (length-append, length-first (c .volume) (ifAny (c .files) 1) (blocks c), length-entries 1 ps) (omega arith)

@@ -1,4 +1,5 @@
 -- Contents written down in chained blocks of 256 bytes (01: return). Document 01, "Return" under Records and under Modules.
+use mathlib.Core.Path.{_≡_}
 use mathlib.Core.Bool.{cond}
 use mathlib.Core.List.{List, [], _∷_, _++_}
 use Prim.Native.Nat.{ℕ, zero, suc, _+_}
@@ -8,7 +9,8 @@ use Rattle.outcome.specs.declared.Refusal.the-variants.{Overlong, NotItsReturn}
 use Rattle.lists.specs.Fill.{padded}
 use Rattle.lists.specs.Same.{same}
 use Rattle.lists.specs.Words.{le2, le3}
-use Rattle.outcome.specs.Outcome.{Outcome, given, _>>=_, _>>_, require}
+use Rattle.outcome.specs.declared.Handed.{Handed}
+use Rattle.outcome.specs.Outcome.{Outcome, given, _>>=_, _>>_, require, number, Hands}
 use Rattle.files.specs.Contents.{File, Contents, contents}
 use Rattle.files.specs.Survey.{dataBlocks, blocks}
 
@@ -55,3 +57,11 @@ archiveOf n d = contents n d >>= λ c. require (leb (blocks c) 4096) Overlong >>
 -- what the checker answers: the same, then 13 where a is not that archive
 unfoldable pub check : ℕ → List ℕ → List ℕ → Outcome (Unit {0})
 check n d a = archiveOf n d >>= λ w. require (same w a) NotItsReturn
+
+-- the promise of the writer: of the disk d, with space from `before` to `after`, answered r
+abbrev pub Wrote : List ℕ → (before after : List ℕ) → Handed → Type 0
+Wrote d before after r = Hands (archiveOf 16 d) before after r
+
+-- the promise of the checker: of the disk d and the bytes a, answered r
+abbrev pub Checked : (d a : List ℕ) → ℕ → Type 0
+Checked d a r = r ≡ number (check 16 d a)

@@ -10,7 +10,8 @@ use lib.Bits.{bitXor}
 use Rattle.lists.specs.Fill.{below, cats}
 use Rattle.lists.specs.Select.{all, any}
 use Rattle.outcome.specs.declared.Refusal.the-variants.{AddressSum, DataSum, Absent, Stranger}
-use Rattle.outcome.specs.Outcome.{Outcome, refused, given, _>>=_, _>>_, require, each}
+use Rattle.outcome.specs.declared.Handed.{Handed}
+use Rattle.outcome.specs.Outcome.{Outcome, refused, given, _>>=_, _>>_, require, each, Hands}
 use Rattle.disk.specs.Disk.{place, byteOf, bytesOf, sized}
 use Rattle.disk.specs.Vtoc.{vtoc}
 use Rattle.nibble.specs.Nibble.{of44, four, valAt, decode, encode}
@@ -129,6 +130,10 @@ sectorSpaced gap v t p bytes = addressWriting v t p ++ (gap ++ dataWriting bytes
 -- .. and with the writer's, 5 of FFh
 unfoldable pub sectorWriting : ℕ → ℕ → ℕ → List ℕ → List ℕ
 sectorWriting v t p bytes = sectorSpaced (replicate 5 0xFF) v t p bytes
+
+-- the promise of denibblize: of the stream s, with space from `before` to `after`, answered r
+abbrev pub Denibblized : List ℕ → (before after : List ℕ) → Handed → Type 0
+Denibblized s before after r = Hands (image s) before after r
 
 -- the bytes of the disk d that address sector k % 16 of track k / 16 holds
 unfoldable pub held : List ℕ → ℕ → List ℕ

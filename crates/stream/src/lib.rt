@@ -8,7 +8,7 @@ ghost use Rattle.outcome.specs.Outcome.{number, Hands};
 ghost use Rattle.stream.specs.Search.{skip, isMark, Clear, recognized};
 ghost use Rattle.stream.specs.Scan.{byteAt4, markAt, placeAfter, noAddress, addressFrom, dataFrom, noPair, pairFrom};
 ghost use Rattle.stream.specs.Steps.{prologueAt, keyed, firstPlace, verdict, Repeats, Judges, Locates, fieldsFrom, strange, numberOf, sumCounts, heldAt, Complete, Within, Decides, Meets, Surveys};
-ghost use Rattle.stream.specs.Stream.{image, sectorOf, interleave, addressWriting, sectorWriting, block, nibblized};
+ghost use Rattle.stream.specs.Stream.{Denibblized, sectorOf, interleave, addressWriting, sectorWriting, block, nibblized};
 use disk::Place;
 use disk::Sector;
 use disk::Track;
@@ -581,7 +581,7 @@ fn put_image(s: &[u8], at: &[usize; 560], out: &mut [u8])
 
 // The flat disk that a stream holds, 143,360 bytes (not in the Rust); refusals 8, 11, 9, 10, 12. One pass looks at sums alone, then the sectors are decoded.
 pub fn denibblize(s: &[u8], out: &mut [u8]) -> Handed
-    ensures { λ r. ⌜ Hands (image (now (s .entry))) (now (out .entry)) (now (out .exit)) r ⌝ }
+    ensures { λ r. ⌜ Denibblized (now (s .entry)) (now (out .entry)) (now (out .exit)) r ⌝ }
 {
     let places = survey(s);
     if places.refusal != 0 {

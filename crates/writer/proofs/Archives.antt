@@ -25,7 +25,7 @@ use Rattle.files.specs.Contents.{File, Contents, fileOf}
 use Rattle.files.specs.Survey.{dataBlocks, blocksIn, blocks}
 use Rattle.files.proofs.Order.{file-given}
 use Rattle.archive.specs.Archive.{dataChain, entryBlock, ifAny, entryChain, firstBlock, archive}
-use Rattle.archive.proofs.Blocks.{length-data, length-entry, length-first}
+use Rattle.archive.proofs.Blocks.{Short, length-data, length-entry, length-first}
 use Rattle.writer.specs.Passes.{Pass, dataAt, headAt, fileBlocks, stepped, withFile, withEntry, withPage}
 
 -- lists of lists, joined
@@ -75,9 +75,6 @@ all-joined n b (f ∷ fs) e =
 -- ---- each block is 256 bytes long
 abbrev Long : List (List ℕ) → Type 0
 Long = Every (λ (x : List ℕ). length x ≡ 256)
-
-abbrev Short : List File → Type 0
-Short = Every (λ (f : File). length (f .name) ≤ 30)
 
 data-long : (K b : ℕ) (xs js : List ℕ) → Long (map (dataAt K b xs) js)
 data-long K b xs [] = none
@@ -215,10 +212,6 @@ module _ (c : Contents) where
   whole-count : length whole-blocks ≡ blocks c
   unfolding whole-blocks
   whole-count = rw (all-count (blocks c) 1 (c .files)) (omega arith)
-
-  -- as long as its blocks say
-  pub archive-long : Short (c .files) → length (archive c) ≡ 256 * blocks c
-  archive-long h = sym (ap length whole-joined) ∙ length-chunks (λ (x : List ℕ). x) 256 (whole-long h) ∙ rw whole-count refl
 
   -- the pass from the start on
   module _ (w : Bool) (a : List ℕ) (n : ℕ) (d : List ℕ) (ps : List Place) (e : each (fileOf n d) (flatMap (entriesOf n d) ps) ≡ given (c .files)) (s : Pass) (z : s .block ≡ 0) where

@@ -8,7 +8,6 @@ use lib.ListN.{length}
 use lib.Dec.{eqb, leb}
 use borrow.Author.Tests.{eq-eqb, ne-eqb, le-leb, lt-leb, not-true, not-false}
 use borrow.Author.Needs.{needs}
-use Rattle.lists.specs.Every.{Every}
 use Rattle.lists.specs.Same.{same}
 use Rattle.lists.proofs.Put.{put-front}
 use Rattle.lists.proofs.Equal.{same-length}
@@ -30,9 +29,10 @@ use Rattle.files.proofs.Order.{contents-given}
 use Rattle.files.proofs.Proper.{catalog-size}
 use Rattle.files.proofs.Surveys.{contents-refuse, survey-gives, survey-given}
 use Rattle.archive.specs.Archive.{ifAny, firstBlock, archive, archiveOf, check}
+use Rattle.archive.proofs.Blocks.{Short, length-archive}
 use Rattle.writer.specs.declared.Mark.{Mark}
 use Rattle.writer.specs.Passes.{Pass, freshMark, passOf, stepped, withPage, walkMade, Made, MadeAll, Filed, Walked}
-use Rattle.writer.proofs.Archives.{names-short, archive-long, whole-blocks, pass-is, pass-writes, pass-compares}
+use Rattle.writer.proofs.Archives.{names-short, whole-blocks, pass-is, pass-writes, pass-compares}
 
 -- ---- the first block, and the pass
 pub first-none : (t : ℕ) → t ≡ 1 → _≡_ {A = ℕ} 0 (cond (eqb t 1) 0 1)
@@ -171,11 +171,11 @@ module _ (d : List ℕ) (s : DiskSurvey) (e : s ≡ surveyed (survey 16 d)) wher
       made : archiveOf 16 d ≡ given (archive (h .c))
       made = archive-given (h .c) (h .is) (omega (arith, h .total))
 
-      short : Every (λ (f : File). length (f .name) ≤ 30) (h .c .files)
+      short : Short (h .c .files)
       short = names-short 16 d (h .ps) (h .c .files) (h .files)
 
       long : length (archive (h .c)) ≡ 256 * s .«archive_blocks»
-      long = archive-long (h .c) short ∙ ap (λ (i : ℕ). 256 * i) (sym (h .total))
+      long = length-archive (h .c) short ∙ ap (λ (i : ℕ). 256 * i) (sym (h .total))
 
       pub write-short : (o : List ℕ) (r : Handed) → length o < 256 * s .«archive_blocks» → r ≡ refusedWith 12 → Hands (archiveOf 16 d) o o r
       write-short o r g q = hands-short (archiveOf 16 d) o (archive (h .c)) made (omega (arith, long)) r q

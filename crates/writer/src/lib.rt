@@ -6,11 +6,10 @@ ghost use Prim.Native.Nat.{ℕ, _+_, _-_, _*_, _%_, _<_, _≤_, min};
 ghost use lib.Dec.{eqb};
 ghost use lib.ListN.{length, getD, take, drop};
 ghost use Rattle.lists.specs.Fill.{below};
-ghost use Rattle.outcome.specs.Outcome.{Hands, number};
 ghost use Rattle.disk.specs.Disk.{sectors};
 ghost use Rattle.catalog.specs.Catalog.{entryFrom, entriesOf, firstPage};
 ghost use Rattle.files.specs.Copies.{cutOf, Copied, Roomy, Whole, CopiedAll, listOf, walkOf};
-ghost use Rattle.archive.specs.Archive.{dataBlock, firstBlock, archiveOf, check};
+ghost use Rattle.archive.specs.Archive.{dataBlock, firstBlock, Wrote, Checked};
 ghost use Rattle.writer.specs.Passes.{freshMark, passOf, sectorAt, headOf, tailOf, sizeBy, startBy, statedIn, nextData, madeAt, headAt, fileWith, stepped, withFile, withEntry, withLive, withPage, walkMade, Made, MadeAll, Has, Due, Walked, Sectors, Filed, spot, startOf, collected};
 ghost use Rattle.files.specs.Survey.{blocksFor};
 use archive::entry_block;
@@ -536,7 +535,7 @@ fn emit_all(
 
 // Writes the archive of a flat disk into out; refusals 1 to 6, 7, 12.
 pub fn write_archive(disk: &[u8], out: &mut [u8]) -> Handed
-    ensures { λ r. ⌜ Hands (archiveOf 16 (now (disk .entry))) (now (out .entry)) (now (out .exit)) r ⌝ }
+    ensures { λ r. ⌜ Wrote (now (disk .entry)) (now (out .entry)) (now (out .exit)) r ⌝ }
 {
     let s = survey(disk);
     if s.refusal != 0 {
@@ -556,7 +555,7 @@ pub fn write_archive(disk: &[u8], out: &mut [u8]) -> Handed
 
 // The bytes are the archive of this flat disk: 0, or the refusal; 1 to 6, 7, 13.
 pub fn check_archive(disk: &[u8], archive: &[u8]) -> u8
-    ensures { λ r. ⌜ r ≡ number (check 16 (now (disk .entry)) (now (archive .entry))) ⌝ }
+    ensures { λ r. ⌜ Checked (now (disk .entry)) (now (archive .entry)) r ⌝ }
 {
     let s = survey(disk);
     if s.refusal != 0 {
