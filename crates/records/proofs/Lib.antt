@@ -1,0 +1,5 @@
+pub mod Entries
+pub mod Page
+pub mod Answers
+pub mod Back
+pub mod Written
