@@ -40,7 +40,7 @@ module _ (next first size : ℕ) (f : File) (h : length (f .name) ≤ 30) (t : L
       three size _ _ _ l (past p c _ t 2 e) (past p c _ t 3 e) (past p c _ t 4 e)
 
   -- so is the sector count
-  entry-count : f .count < 65536 → wordAt (entryBlock next first size f ++ t) 37 ≡ f .count
+  pub entry-count : f .count < 65536 → wordAt (entryBlock next first size f ++ t) 37 ≡ f .count
   unfolding entryBlock padded
   entry-count l =
       let p : List ℕ = padded 30 (f .name) in
@@ -49,7 +49,7 @@ module _ (next first size : ℕ) (f : File) (h : length (f .name) ≤ 30) (t : L
       two (f .count) _ _ l (past p c _ t 0 e) (past p c _ t 1 e)
 
   -- and the name
-  entry-name : take (length (f .name)) (drop 7 (entryBlock next first size f ++ t)) ≡ f .name
+  pub entry-name : take (length (f .name)) (drop 7 (entryBlock next first size f ++ t)) ≡ f .name
   unfolding entryBlock padded
   entry-name = simp append-assoc (take-at (f .name) _ (length (f .name)) refl)
 
@@ -90,7 +90,7 @@ pub entry-long : (n b : ℕ) (f : File) → length (f .name) ≤ 30 → length (
 entry-long n b f h = length-entry _ _ (length (f .bytes)) f h
 
 -- and is taken for what it is
-entry-sound : (n b : ℕ) (f : File) (t : List ℕ) → Proper f → length (f .bytes) < 16777216 → soundEntry n b (entryOf n b f ++ t) ≡ true
+pub entry-sound : (n b : ℕ) (f : File) (t : List ℕ) → Proper f → length (f .bytes) < 16777216 → soundEntry n b (entryOf n b f ++ t) ≡ true
 unfolding soundEntry entryBlock
 entry-sound n b f t p l =
     rw (entry-size _ _ (length (f .bytes)) f (p .nameLength) t l, entry-back _ _ (length (f .bytes)) f t [] p, proper-allowed [] p, take-at (entryOf n b f) t 256 (entry-long n b f (p .nameLength)))
@@ -112,15 +112,15 @@ last-is k size h =
 
 module _ (k b : ℕ) (xs t : List ℕ) (h : suc k ≡ blocksFor (length xs)) where
   -- the chain's first block
-  abbrev block : List ℕ
+  abbrev pub block : List ℕ
   block = dataBlock (cond (eqb k 0) 0 (b + 1)) (take 254 xs)
 
   -- it is a block
-  block-long : length block ≡ 256
+  pub block-long : length block ≡ 256
   block-long = length-data (cond (eqb k 0) 0 (b + 1)) (take 254 xs) (rw length-take (omega arith))
 
   -- its data is read back
-  part-is : partIn (length xs) (block ++ t) ≡ take 254 xs
+  pub part-is : partIn (length xs) (block ++ t) ≡ take 254 xs
   unfolding dataBlock
   part-is = rw (take-at (padded 254 (take 254 xs)) t 254 (length-padded 254 (take 254 xs) (rw length-take (omega arith)))) (part-back xs)
 
@@ -130,7 +130,7 @@ module _ (k b : ℕ) (xs t : List ℕ) (h : suc k ≡ blocksFor (length xs)) whe
   data-sound = rw (part-is, take-at block t 256 block-long, ← last-is k (length xs) h) (same-refl block)
 
   -- the chain goes on behind its first block
-  chain-cons : dataChain (suc k) b xs ++ t ≡ block ++ (dataChain k (b + 1) (drop 254 xs) ++ t)
+  pub chain-cons : dataChain (suc k) b xs ++ t ≡ block ++ (dataChain k (b + 1) (drop 254 xs) ++ t)
   unfolding dataChain
   chain-cons = append-assoc block (dataChain k (b + 1) (drop 254 xs)) t
 

@@ -1,16 +1,16 @@
 -- Blocks are made as they are defined. Assumes nothing.
 use mathlib.Core.Path.{_≡_, refl, _∙_}
 use mathlib.Core.List.{List, [], _∷_, _++_, append-assoc}
-use Prim.Native.Nat.{ℕ, _+_, _*_, _-_, _/_, _%_, _<_, _≤_}
+use Prim.Native.Nat.{ℕ, _+_, _-_, _/_, _%_, _<_, _≤_}
 use native.Mathlib.Omega.{arith}
-use lib.ListN.{length, take, drop, replicate, length-take, length-append}
+use lib.ListN.{length, take, drop, replicate, length-take}
 use borrow.Author.Needs.{needs}
 use Rattle.lists.specs.Fill.{padded, placed}
 use Rattle.lists.specs.Words.{le2, le3}
 use Rattle.lists.proofs.Laws.{length-padded, placed-zeros, drop-zeros}
 use Rattle.lists.proofs.Put.{Put, placed-put, put-more, put-front}
 use Rattle.archive.specs.Archive.{dataBlock, entryBlock, firstBlock}
-use Rattle.archive.specs.Blocks.{fileWith, nameField, entryBytes, dataBytes}
+use Rattle.archive.specs.Blocks.{nameField, entryBytes, dataBytes}
 
 -- no more than was asked for
 short : (n : ℕ) (x : List ℕ) → length (take n x) ≤ n
