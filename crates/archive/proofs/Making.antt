@@ -9,8 +9,8 @@ use Rattle.lists.specs.Fill.{padded, placed}
 use Rattle.lists.specs.Words.{le2, le3}
 use Rattle.lists.proofs.Laws.{length-padded, placed-zeros, drop-zeros}
 use Rattle.lists.proofs.Put.{Put, placed-put, put-more, put-front}
-use Rattle.archive.specs.Archive.{dataBlock, entryBlock, firstBlock}
-use Rattle.archive.specs.Blocks.{nameField, entryBytes, dataBytes}
+use Rattle.archive.specs.Archive.{entryBlock, firstBlock}
+use Rattle.archive.specs.Blocks.{nameField, entryBytes}
 
 -- no more than was asked for
 short : (n : ℕ) (x : List ℕ) → length (take n x) ≤ n
@@ -58,18 +58,4 @@ entry-made next first size kind locked count name x f z a b o e g h p q r =
     let p₃ : Put 0 ((H ++ f) ++ T) z o = put-more p₂ q₃ l₂ (omega arith) in
     in-zeros 256 ((H ++ f) ++ T) z o e p₃ ∙ rw (append-assoc H f T, g, h) refl
 
--- a data block
-pub data-made : (next : ℕ) (xs x z a o : List ℕ) → z ≡ replicate 256 0 → x ≡ take 254 (drop 0 xs) → a ≡ placed 0 (next % 256 ∷ next / 256 % 256 ∷ []) z
-    → o ≡ placed 2 x a → o ≡ dataBytes next xs
-unfolding dataBytes dataBlock padded
-data-made next xs x z a o e h p q =
-    let H : List ℕ = le2 next in
-    let lz : length z ≡ 256 = rw e refl in
-    let lx : length x ≤ 254 = rw h (short 254 xs) in
-    let p₁ : Put 0 H z a = placed-put p (omega arith) in
-    let q₂ : Put 2 x a o = placed-put q (omega (arith, p₁ .long)) in
-    let p₂ : Put 0 (H ++ x) z o = put-more p₁ q₂ refl (omega arith) in
-    let k : 256 - length (H ++ x) ≡ 254 - length x = omega arith in
-    in-zeros 256 (H ++ x) z o e p₂ ∙ rw (k, h) refl
-
-pub ruleset making = (first-made, name-made, name-short, entry-made, data-made, needs)
+pub ruleset making = (first-made, name-made, name-short, entry-made, needs)

@@ -4,7 +4,7 @@ use Prim.Native.Nat.{ℕ}
 use lib.ListN.{take}
 use Rattle.lists.specs.Fill.{padded}
 use Rattle.files.specs.Contents.{File}
-use Rattle.archive.specs.Archive.{dataBlock, entryBlock}
+use Rattle.archive.specs.Archive.{entryBlock}
 
 -- a file of these fields: of the name the first 30 bytes, no data
 abbrev pub fileWith : ℕ → ℕ → List ℕ → ℕ → File
@@ -17,7 +17,3 @@ nameField name = padded 30 (take 30 name)
 -- its entry block: of the size the low three bytes (`le3`)
 unfoldable pub entryBytes : ℕ → ℕ → ℕ → ℕ → ℕ → List ℕ → ℕ → List ℕ
 entryBytes next first size kind locked name count = entryBlock next first size (fileWith kind locked name count)
-
--- a data block: of the bytes the first 254
-unfoldable pub dataBytes : ℕ → List ℕ → List ℕ
-dataBytes next xs = dataBlock next (take 254 xs)

@@ -1,7 +1,7 @@
 // Archives: the contents of a disk in chained blocks (document 01's return, which the Rust has not).
 ghost use mathlib.Core.Path.{_≡_};
 ghost use Rattle.archive.specs.Archive.{firstBlock};
-ghost use Rattle.archive.specs.Blocks.{nameField, entryBytes, dataBytes};
+ghost use Rattle.archive.specs.Blocks.{nameField, entryBytes};
 use lists::copy_at;
 use lists::part;
 
@@ -63,16 +63,5 @@ pub fn entry_block(
     copy_at(&head, &mut block, 0);
     copy_at(&field, &mut block, 7);
     copy_at(&tail, &mut block, 37);
-    block
-}
-
-// A data block: the next one's number, and of xs the first 254 bytes.
-pub fn data_block(next: u16, xs: &[u8]) -> [u8; 256]
-    ensures { λ r. ⌜ r ≡ dataBytes next (now (xs .entry)) ⌝ }
-{
-    let head = [(next % 256) as u8, (next / 256 % 256) as u8];
-    let mut block = [0u8; 256];
-    copy_at(&head, &mut block, 0);
-    copy_at(part(xs, 0, 254), &mut block, 2);
     block
 }

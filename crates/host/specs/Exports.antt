@@ -2,14 +2,20 @@
 use mathlib.Core.Path.{_≡_}
 use mathlib.Core.Bool.{Bool, cond, not}
 use mathlib.Core.List.{List, [], _∷_}
-use Prim.Native.Nat.{ℕ, _-_}
+use Prim.Native.Nat.{ℕ}
 use lib.ListN.{length}
 use lib.Dec.{eqb}
 use Rattle.outcome.specs.declared.Handed.{Handed}
 use Rattle.outcome.specs.Outcome.{Outcome, refused, given, _>>=_, _>>_, number, handed, leftBy}
-use Rattle.disk.specs.Disk.{byteOf, wordOf, sectors}
-use Rattle.disk.specs.Vtoc.{vtoc, readable, freeBelow, percent}
-use Rattle.files.specs.Survey.{Survey, survey}
+use Rattle.disk.specs.declared.VolumeTableOfContents.{VolumeTableOfContents}
+use Rattle.disk.specs.Disk.{byteOf}
+use Rattle.disk.specs.Vtoc.{vtoc, readable, tableOf}
+use Rattle.files.specs.Survey.{Survey, survey, blocks}
+use Rattle.archive.specs.Archive.{ifAny}
+use Rattle.archive.specs.Reader.{opened}
+use Rattle.reader.specs.declared.Entry.{Entry}
+use Rattle.reader.specs.Steps.{entryOf}
+use Rattle.records.specs.Formats.{recognized}
 
 -- a yes/no as a host passes it: 0 is no, anything else is yes
 abbrev pub yes : ℕ → Bool
@@ -36,25 +42,27 @@ pub record Told (h : Handed) (n m r : ℕ) : Type 0 where
   pub result : r ≡ h .refusal
   pub length : m ≡ cond (eqb (h .refusal) 0) (h .length) n
 
+-- the numbers of a table, with the byte of its direction
+abbrev pub vtocValues : VolumeTableOfContents → ℕ → List ℕ
+vtocValues v b =
+    v .«track_number_of_first_catalog_sector»
+    ∷ v .«sector_number_of_first_catalog_sector»
+    ∷ v .«release_number_of_dos»
+    ∷ v .«diskette_volume_number»
+    ∷ v .«maximum_number_of_track_sector_pairs»
+    ∷ v .«last_track_where_sectors_were_allocated»
+    ∷ b
+    ∷ v .«number_of_tracks_per_diskette»
+    ∷ v .«number_of_sectors_per_track»
+    ∷ v .«number_of_bytes_per_sector»
+    ∷ v .free
+    ∷ v .used
+    ∷ v .«percent_used»
+    ∷ []
+
 -- the 13 numbers of a VTOC: 1, 2
 unfoldable pub vtocNumbers : List ℕ → Outcome (List ℕ)
-vtocNumbers d =
-    readable 16 d >>
-    given
-    (byteOf 16 d vtoc 1
-    ∷ byteOf 16 d vtoc 2
-    ∷ byteOf 16 d vtoc 3
-    ∷ byteOf 16 d vtoc 6
-    ∷ byteOf 16 d vtoc 39
-    ∷ byteOf 16 d vtoc 48
-    ∷ byteOf 16 d vtoc 49
-    ∷ byteOf 16 d vtoc 52
-    ∷ byteOf 16 d vtoc 53
-    ∷ wordOf 16 d vtoc 54
-    ∷ freeBelow 16 d 35
-    ∷ (sectors 16 - freeBelow 16 d 35)
-    ∷ percent (sectors 16) (sectors 16 - freeBelow 16 d 35)
-    ∷ [])
+vtocNumbers d = readable 16 d >> given (vtocValues (tableOf 16 d) (byteOf 16 d vtoc 49))
 
 -- the 7 numbers of a survey: 1 to 6
 abbrev pub surveyFields : Survey → List ℕ
@@ -62,3 +70,18 @@ surveyFields s = s .volume ∷ s .entries ∷ s .free ∷ s .used ∷ s .percent
 
 unfoldable pub surveyNumbers : List ℕ → Outcome (List ℕ)
 surveyNumbers d = survey 16 d >>= λ s. given (surveyFields s)
+
+-- the 3 numbers of an archive that is opened: 13
+unfoldable pub openNumbers : List ℕ → Outcome (List ℕ)
+openNumbers a = opened a >>= λ c. given (c .volume ∷ ifAny (c .files) 1 ∷ blocks c ∷ [])
+
+-- the 8 numbers of an entry: 13
+abbrev pub entryFields : Entry → List ℕ
+entryFields e = e .found ∷ e .next ∷ e .first ∷ e .kind ∷ e .locked ∷ e .«name_length» ∷ e .count ∷ e .size ∷ []
+
+unfoldable pub entryNumbers : List ℕ → ℕ → Outcome (List ℕ)
+entryNumbers a b = opened a >>= λ c. given (entryFields (entryOf 1 (c .files) b))
+
+-- 1 for DOS 3.3, else 0: 17
+unfoldable pub formatNumbers : List ℕ → Outcome (List ℕ)
+formatNumbers d = recognized d >>= λ found. given (cond found 1 0 ∷ [])

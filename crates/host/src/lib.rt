@@ -1,7 +1,9 @@
 // The functions exported to a host: HOST-API.md. Each calls the library function of the same job, and tells its answer.
 ghost use mathlib.Core.Path.{_≡_};
 ghost use Rattle.outcome.specs.Outcome.{number};
-ghost use Rattle.disk.specs.Disk.{place};
+ghost use mathlib.Core.Bool.{cond};
+ghost use Rattle.disk.specs.Disk.{place, byteOf};
+ghost use Rattle.disk.specs.Vtoc.{vtoc};
 ghost use Rattle.disk.specs.Window.{windowed};
 ghost use Rattle.catalog.specs.Listing.{listed};
 ghost use Rattle.files.specs.Contents.{pairBytes};
@@ -10,10 +12,19 @@ ghost use Rattle.files.specs.Chosen.{fileOfNumber, listsOfNumber};
 ghost use Rattle.nibble.specs.Nibble.{encoded};
 ghost use Rattle.stream.specs.Stream.{image, sectorOf, nibblized};
 ghost use Rattle.archive.specs.Archive.{archiveOf, check};
-ghost use Rattle.host.specs.Exports.{Exports, Fields, Told};
+ghost use Prim.Native.Nat.{_≤_};
+ghost use lib.ListN.{length, drop};
+ghost use mathlib.Core.List.{_++_, _∷_, []};
+ghost use Rattle.outcome.specs.Outcome.{given};
+ghost use Rattle.records.specs.Records.{entryWritten, pageWritten, fileWritten};
+ghost use Rattle.stream.specs.Search.{recognized};
+ghost use Rattle.host.specs.Exports.{Exports, Fields, Told, yes, vtocNumbers, surveyNumbers, openNumbers, entryNumbers, formatNumbers};
+use disk::Place;
 use disk::Sector;
 use disk::Track;
+use lists::copy_at;
 use outcome::Handed;
+use outcome::TRAY_SHORT;
 
 // Tells an answer: its number is the result, its length goes behind `length`.
 fn tell(h: Handed, length: &mut u64) -> u8
@@ -134,4 +145,265 @@ pub extern "C" fn dos33_nibblize(disk: &[u8], out: &mut [u8], length: &mut u64) 
 {
     let answer = stream::nibblize(disk, out);
     tell(answer, length)
+}
+
+// The record of an entry. 14, 12.
+#[no_mangle]
+pub extern "C" fn dos33_entry_record(
+    track: u8,
+    sector: u8,
+    kind: u8,
+    locked: u8,
+    name: &[u8],
+    count: u16,
+    out: &mut [u8],
+    length: &mut u64,
+) -> u8
+    ensures { λ r. ⌜ Exports (entryWritten (place track sector) kind (yes locked) (now (name .entry)) count) (now (out .entry)) (now (out .exit)) (now (length .entry)) (now (length .exit)) r ⌝ }
+{
+    let list = Place {
+        track: Track(track),
+        sector: Sector(sector),
+    };
+    let answer = records::file_entry_as_vec(list, kind, locked != 0, name, count, out);
+    tell(answer, length)
+}
+
+// A catalog page. 16, 14, 12.
+#[no_mangle]
+pub extern "C" fn dos33_catalog_page(
+    header: &[u8],
+    entries: &[u8],
+    out: &mut [u8],
+    length: &mut u64,
+) -> u8
+    ensures { λ r. ⌜ Exports (pageWritten (now (header .entry)) (now (entries .entry))) (now (out .entry)) (now (out .exit)) (now (length .entry)) (now (length .exit)) r ⌝ }
+{
+    let answer = records::catalog_as_vec(header, entries, out);
+    tell(answer, length)
+}
+
+// A Binary file. 15, 12.
+#[no_mangle]
+pub extern "C" fn dos33_binary_file(
+    kind: u8,
+    address: u16,
+    size: u16,
+    data: &[u8],
+    out: &mut [u8],
+    length: &mut u64,
+) -> u8
+    ensures { λ r. ⌜ Exports (fileWritten kind address size (now («data» .entry))) (now (out .entry)) (now (out .exit)) (now (length .entry)) (now (length .exit)) r ⌝ }
+{
+    let answer = records::full_file_as_vec(kind, address, size, data, out);
+    tell(answer, length)
+}
+
+// 96h or B5h, or 0 for none.
+#[no_mangle]
+pub extern "C" fn dos33_recognize_prologue(stream: &[u8]) -> u8
+    ensures { λ r. ⌜ r ≡ recognized (now (stream .entry)) ⌝ }
+{
+    stream::recognize_prologue(stream)
+}
+
+// A sector of the disk if flat, else of the image. 1, 3, 12.
+#[no_mangle]
+pub extern "C" fn dos33_window<'a>(
+    disk: &'a [u8],
+    image: &'a [u8],
+    flat: u8,
+    track: u8,
+    sector: u8,
+    out: &mut [u8],
+    length: &mut u64,
+) -> u8
+    ensures { λ r. ⌜ Exports (windowed (now (disk .entry)) (now (image .entry)) (yes flat) (place track sector)) (now (out .entry)) (now (out .exit)) (now (length .entry)) (now (length .exit)) r ⌝ }
+{
+    let number = disk::window_refusal(disk, image, flat != 0, Track(track), Sector(sector));
+    if number != 0 {
+        return number;
+    }
+    let bytes = disk::window(disk, image, flat != 0, Track(track), Sector(sector));
+    if out.len() < bytes.len() {
+        return TRAY_SHORT;
+    }
+    copy_at(bytes, out, 0);
+    *length = bytes.len() as u64;
+    0
+}
+
+// Puts the values to the front of the elements.
+fn copy_fields(values: &[u64], fields: &mut [u64])
+    requires { ⌜ length (now values) ≤ length (now fields) ⌝ }
+    ensures { λ _. ⌜ now (fields .exit) ≡ now (values .entry) ++ drop (length (now (values .entry))) (now (fields .entry)) ⌝ }
+{
+    let mut k: usize = 0;
+    while k < values.len() {
+        fields[k] = values[k];
+        k += 1;
+    }
+}
+
+// Hands the values over; 12 where there are too few elements.
+fn put_fields(values: &[u64], fields: &mut [u64]) -> u8
+    ensures { λ r. ⌜ Fields (given (now (values .entry))) (now (fields .entry)) (now (fields .exit)) r ⌝ }
+{
+    if fields.len() < values.len() {
+        return TRAY_SHORT;
+    }
+    copy_fields(values, fields);
+    0
+}
+
+// The direction of a VTOC as its byte.
+fn direction_byte(disk: &[u8]) -> u8
+    ensures { λ r. ⌜ r ≡ byteOf 16 (now (disk .entry)) vtoc 49 ⌝ }
+{
+    let table = Place {
+        track: Track(17),
+        sector: Sector(0),
+    };
+    disk::byte_of(disk, 16, table, 49)
+}
+
+// Thirteen numbers as elements.
+fn vtoc_values(
+    track: u8,
+    sector: u8,
+    release: u8,
+    volume: u8,
+    pairs: u8,
+    last: u8,
+    direction: u8,
+    tracks: u8,
+    sectors: u8,
+    size: u16,
+    free: u32,
+    used: u32,
+    percent: u32,
+) -> [u64; 13]
+    ensures { λ r. ⌜ r ≡ track ∷ sector ∷ release ∷ volume ∷ pairs ∷ last ∷ direction ∷ tracks ∷ sectors ∷ size ∷ free ∷ used ∷ percent ∷ [] ⌝ }
+{
+    [
+        track as u64,
+        sector as u64,
+        release as u64,
+        volume as u64,
+        pairs as u64,
+        last as u64,
+        direction as u64,
+        tracks as u64,
+        sectors as u64,
+        size as u64,
+        free as u64,
+        used as u64,
+        percent as u64,
+    ]
+}
+
+// The numbers of a VTOC. 1, 2, 12.
+#[no_mangle]
+pub extern "C" fn dos33_vtoc(disk: &[u8], fields: &mut [u64]) -> u8
+    ensures { λ r. ⌜ Fields (vtocNumbers (now (disk .entry))) (now (fields .entry)) (now (fields .exit)) r ⌝ }
+{
+    let v = disk::parse_volume_table_of_contents(disk);
+    if v.refusal != 0 {
+        return v.refusal;
+    }
+    let values = vtoc_values(
+        v.track_number_of_first_catalog_sector,
+        v.sector_number_of_first_catalog_sector,
+        v.release_number_of_dos,
+        v.diskette_volume_number,
+        v.maximum_number_of_track_sector_pairs,
+        v.last_track_where_sectors_were_allocated,
+        direction_byte(disk),
+        v.number_of_tracks_per_diskette,
+        v.number_of_sectors_per_track,
+        v.number_of_bytes_per_sector,
+        v.free,
+        v.used,
+        v.percent_used,
+    );
+    put_fields(&values, fields)
+}
+
+// The numbers of a survey. 1 to 6, 12.
+#[no_mangle]
+pub extern "C" fn dos33_survey(disk: &[u8], fields: &mut [u64]) -> u8
+    ensures { λ r. ⌜ Fields (surveyNumbers (now (disk .entry))) (now (fields .entry)) (now (fields .exit)) r ⌝ }
+{
+    let s = files::survey(disk);
+    if s.refusal != 0 {
+        return s.refusal;
+    }
+    let values = [
+        s.volume as u64,
+        s.entries as u64,
+        s.free as u64,
+        s.used as u64,
+        s.percent_used as u64,
+        s.archive_blocks,
+        s.links,
+    ];
+    put_fields(&values, fields)
+}
+
+// The numbers of an archive that is opened. 13, 12.
+#[no_mangle]
+pub extern "C" fn dos33_archive_open(archive: &[u8], fields: &mut [u64]) -> u8
+    ensures { λ r. ⌜ Fields (openNumbers (now (archive .entry))) (now (fields .entry)) (now (fields .exit)) r ⌝ }
+{
+    let o = reader::open(archive);
+    if o.refusal != 0 {
+        return o.refusal;
+    }
+    let values = [o.volume as u64, o.first as u64, o.blocks as u64];
+    put_fields(&values, fields)
+}
+
+// The numbers of an archive's entry by its block; eight zeros at the end. 13, 12.
+#[no_mangle]
+pub extern "C" fn dos33_archive_entry(archive: &[u8], block: u64, fields: &mut [u64]) -> u8
+    ensures { λ r. ⌜ Fields (entryNumbers (now (archive .entry)) block) (now (fields .entry)) (now (fields .exit)) r ⌝ }
+{
+    let e = reader::entry_at(archive, block);
+    if e.refusal != 0 {
+        return e.refusal;
+    }
+    let values = [
+        e.found as u64,
+        e.next as u64,
+        e.first as u64,
+        e.kind as u64,
+        e.locked as u64,
+        e.name_length as u64,
+        e.count as u64,
+        e.size as u64,
+    ];
+    put_fields(&values, fields)
+}
+
+// 1 for yes, 0 for no.
+fn bit(b: bool) -> u64
+    ensures { λ r. ⌜ r ≡ cond b 1 0 ⌝ }
+{
+    if b {
+        return 1;
+    }
+    0
+}
+
+// 1 for a DOS 3.3 disk, else 0. 17, 12.
+#[no_mangle]
+pub extern "C" fn dos33_format_from_data(data: &[u8], fields: &mut [u64]) -> u8
+    ensures { λ r. ⌜ Fields (formatNumbers (now («data» .entry))) (now (fields .entry)) (now (fields .exit)) r ⌝ }
+{
+    let f = records::format_from_data(data);
+    if f.refusal != 0 {
+        return f.refusal;
+    }
+    let values = [bit(f.dos33)];
+    put_fields(&values, fields)
 }

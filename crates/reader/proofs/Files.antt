@@ -17,7 +17,7 @@ use Rattle.files.specs.Contents.{File, Contents, Proper}
 use Rattle.files.specs.Survey.{blocksFor, dataBlocks, blocksIn, blocks}
 use Rattle.archive.specs.Archive.{dataBlock, dataChain, entryBlock, ifAny, entryChain, firstBlock, archive}
 use Rattle.archive.specs.Reader.{sizeIn, entryIn, soundEntry, opened}
-use Rattle.archive.proofs.Blocks.{length-first, length-chain, length-archive}
+use Rattle.archive.proofs.Blocks.{length-first, length-chain, length-archive, proper-short}
 use Rattle.archive.proofs.Back.{entryOf, entry-long, entry-sound, entry-size, entry-back, withBytes, link-is, chain-first, chain-cons, block-long, part-is, is-nil}
 use Rattle.archive.proofs.Reader.{opened-is}
 use Rattle.reader.specs.Steps.{fieldsIn, isEntry, entryStep, fieldsOf, nameIn, dataPart, nextData}
@@ -42,7 +42,7 @@ from-first a c h o =
       some = omega arith;
       proper = s .0;
       is = rw (s .3) (drop-at v (entryChain 1 (c .files)) 256 (length-first (c .volume) (ifAny (c .files) 1) (blocks c)));
-      long = ap length (s .3) ∙ length-archive c (s .0);
+      long = ap length (s .3) ∙ length-archive c (proper-short (s .0));
       few = s .2;
     }
 

@@ -18,7 +18,7 @@ use Rattle.files.specs.Contents.{File, Contents}
 use Rattle.files.specs.Survey.{blocksIn}
 use Rattle.archive.specs.Reader.{sizeIn, soundEntry, soundFirst, entriesFrom, opened}
 use Rattle.archive.proofs.Back.{link-is}
-use Rattle.archive.proofs.Blocks.{length-archive}
+use Rattle.archive.proofs.Blocks.{length-archive, proper-short}
 use Rattle.archive.proofs.Reader.{opened-is}
 use Rattle.reader.specs.declared.Opened.{Opened}
 use Rattle.reader.specs.declared.Entry.{Entry}
@@ -62,7 +62,7 @@ module _ (a : List ℕ) (n : ℕ) (q : n ≡ length a / 256 - 1) (t : Bool) (e :
       let c : Contents = record { volume = getD a 0 0; files = f .0 } in
       let o : opened a ≡ given c = gave (f .0) z (f .1) in
       let s = opened-is a c (λ k. omega (arith, h k)) .0 o in
-      let d : length a ≡ 256 * (1 + blocksIn (f .0)) = ap length (s .3) ∙ length-archive c (s .0) in
+      let d : length a ≡ 256 * (1 + blocksIn (f .0)) = ap length (s .3) ∙ length-archive c (proper-short (s .0)) in
       let b : blocksIn (f .0) ≡ n = omega arith in
       let x : l ≡ cond (eqb 0 n) 0 1 = k ∙ by-test (eqb 0 n) (λ i. rw i refl) (λ i. rw i refl) in
       rw (o, u, x, b, ← link-is (f .0) 0 n 1 (omega arith)) refl

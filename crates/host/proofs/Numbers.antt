@@ -1,0 +1,207 @@
+-- Numbers handed over in elements, and the part of a window. Assumes nothing.
+use mathlib.Core.Path.{_≡_, refl, sym, ap, subst, _∙_}
+use mathlib.Core.Bool.{Bool, true, false, cond}
+use mathlib.Core.List.{List, [], _∷_, _++_}
+use Prim.Native.Nat.{ℕ, zero, suc, _+_, _-_, _<_, _≤_}
+use native.Mathlib.Omega.{arith}
+use lib.ListN.{length, getD, drop}
+use lib.Dec.{eqb, leb}
+use borrow.Author.Tests.{eq-eqb, le-leb, lt-leb}
+use borrow.Author.Needs.{needs}
+use Rattle.lists.specs.Fill.{placed, tab}
+use Rattle.lists.proofs.Laws.{tab-self}
+use Rattle.lists.proofs.Split.{by-test}
+use Rattle.lists.proofs.Fills.{FillTo, fill-start, fill-turn, fill-end}
+use Rattle.lists.proofs.Put.{placed-put, put-front}
+use Rattle.outcome.specs.Refusal.{code}
+use Rattle.outcome.specs.declared.Refusal.{Refusal}
+use Rattle.outcome.specs.Outcome.{Outcome, refused, given, _>>=_, number, handed, leftBy}
+use Rattle.outcome.proofs.Outcome.{code-pos}
+use Rattle.disk.specs.declared.Place.{Place}
+use Rattle.disk.specs.declared.VolumeTableOfContents.{VolumeTableOfContents}
+use Rattle.disk.specs.Disk.{byteOf}
+use Rattle.disk.specs.Vtoc.{vtoc, blank, readable, tableOf, parsed}
+use Rattle.disk.specs.Window.{part}
+use Rattle.files.specs.declared.DiskSurvey.{DiskSurvey}
+use Rattle.files.specs.Contents.{File, Contents}
+use Rattle.files.specs.Survey.{Survey, survey, surveyed}
+use Rattle.archive.specs.Reader.{opened}
+use Rattle.reader.specs.declared.Opened.{Opened}
+use Rattle.reader.specs.declared.Entry.{Entry}
+use Rattle.reader.specs.Steps.{openedWith, entryOf, fieldsOf, entryWith}
+use Rattle.records.specs.declared.Format.{Format}
+use Rattle.records.specs.Formats.{recognized, formatOf}
+use Rattle.host.specs.Exports.{Exports, Fields, vtocValues, vtocNumbers, surveyNumbers, openNumbers, entryFields, entryNumbers, formatNumbers}
+
+-- ---- the elements
+pub fields-copied : (v : List ℕ) (k : ℕ) (d o : List ℕ) → FillTo (λ j. getD v j 0) (length v) k d o → length v ≤ k → o ≡ v ++ drop (length v) d
+fields-copied v k d o h l = fill-end _ (length v) k d o h l ∙ rw (tab-self v) refl
+
+pub ruleset copying = (fill-start, fill-turn, fields-copied, needs)
+
+pub put-short : (v d : List ℕ) → length d < length v → Fields (given v) d d 12
+put-short v d h = record { result = rw (lt-leb (length v) (length d) h) refl; left = rw (lt-leb (length v) (length d) h) refl }
+
+pub put-done : (v d o : List ℕ) → length v ≤ length d → o ≡ v ++ drop (length v) d → Fields (given v) d o 0
+put-done v d o h e = record { result = rw (le-leb (length v) (length d) h) refl; left = rw (le-leb (length v) (length d) h) e }
+
+pub ruleset putting = (put-short, put-done, needs)
+
+-- ---- a refusal of the library, and what it gives
+refused-fields : (o : Outcome (List ℕ)) (q : Refusal) (d : List ℕ) (r : ℕ) → o ≡ refused q → r ≡ code q → Fields o d d r
+refused-fields o q d r e h = record { result = h ∙ rw e refl; left = rw e refl }
+
+given-fields : (o : Outcome (List ℕ)) (v d o′ : List ℕ) (r : ℕ) → o ≡ given v → Fields (given v) d o′ r → Fields o d o′ r
+given-fields o v d o′ r e h = subst (λ (x : Outcome (List ℕ)). Fields x d o′ r) (sym e) h
+
+module _ (x : List ℕ) (d : List ℕ) where
+  -- ---- the survey
+  survey-no : (p : Outcome Survey) (s : DiskSurvey) → survey 16 x ≡ p → s ≡ surveyed p → (s .refusal ≡ 0 → ⊥) → Fields (surveyNumbers x) d d (s .refusal)
+  unfolding surveyNumbers
+  survey-no (refused q) s e h z = refused-fields (surveyNumbers x) q d (s .refusal) (rw e refl) (ap (λ (y : DiskSurvey). y .refusal) h)
+  survey-no (given v) s e h z = absurd (z (ap (λ (y : DiskSurvey). y .refusal) h))
+
+  pub survey-refused : (s : DiskSurvey) → s ≡ surveyed (survey 16 x) → (s .refusal ≡ 0 → ⊥) → Fields (surveyNumbers x) d d (s .refusal)
+  survey-refused s h z = survey-no (survey 16 x) s refl h z
+
+  survey-yes : (p : Outcome Survey) (s : DiskSurvey) → survey 16 x ≡ p → s ≡ surveyed p → s .refusal ≡ 0
+      → surveyNumbers x ≡ given (s .volume ∷ s .entries ∷ s .free ∷ s .used ∷ s .«percent_used» ∷ s .«archive_blocks» ∷ s .links ∷ [])
+  unfolding surveyNumbers
+  survey-yes (refused q) s e h z = absurd (omega (arith, code-pos q, ap (λ (y : DiskSurvey). y .refusal) h))
+  survey-yes (given v) s e h z =
+      rw (surveyNumbers, e) (sym (ap (λ (y : DiskSurvey). given (y .volume ∷ y .entries ∷ y .free ∷ y .used ∷ y .«percent_used» ∷ y .«archive_blocks» ∷ y .links ∷ [])) h))
+
+  pub survey-given : (s : DiskSurvey) → s ≡ surveyed (survey 16 x) → s .refusal ≡ 0 → (o : List ℕ) (r : ℕ)
+      → Fields (given (s .volume ∷ s .entries ∷ s .free ∷ s .used ∷ s .«percent_used» ∷ s .«archive_blocks» ∷ s .links ∷ [])) d o r → Fields (surveyNumbers x) d o r
+  survey-given s h z o r u = given-fields (surveyNumbers x) _ d o r (survey-yes (survey 16 x) s refl h z) u
+
+pub ruleset surveying = (survey-refused, survey-given, needs)
+
+-- ---- the VTOC
+module _ (x : List ℕ) (d : List ℕ) where
+  vtoc-no : (p : Outcome (Unit {0})) (v : VolumeTableOfContents) → readable 16 x ≡ p → v ≡ parsed 16 x → (v .refusal ≡ 0 → ⊥) → Fields (vtocNumbers x) d d (v .refusal)
+  unfolding vtocNumbers parsed tableOf
+  vtoc-no (refused q) v e h z =
+      let t : v ≡ blank (code q) = h ∙ rw (parsed, e) refl in
+      refused-fields (vtocNumbers x) q d (v .refusal) (rw e refl) (ap (λ (y : VolumeTableOfContents). y .refusal) t)
+  vtoc-no (given u) v e h z =
+      let t : v ≡ tableOf 16 x = h ∙ rw (parsed, e) refl in
+      absurd (z (ap (λ (y : VolumeTableOfContents). y .refusal) t))
+
+  pub vtoc-refused : (v : VolumeTableOfContents) → v ≡ parsed 16 x → (v .refusal ≡ 0 → ⊥) → Fields (vtocNumbers x) d d (v .refusal)
+  vtoc-refused v h z = vtoc-no (readable 16 x) v refl h z
+
+  vtoc-yes : (p : Outcome (Unit {0})) (v : VolumeTableOfContents) (b : ℕ) → readable 16 x ≡ p → v ≡ parsed 16 x → v .refusal ≡ 0 → b ≡ byteOf 16 x vtoc 49
+      → vtocNumbers x ≡ given (vtocValues v b)
+  unfolding vtocNumbers parsed tableOf
+  vtoc-yes (refused q) v b e h z k =
+      let t : v ≡ blank (code q) = h ∙ rw (parsed, e) refl in
+      absurd (omega (arith, code-pos q, ap (λ (y : VolumeTableOfContents). y .refusal) t))
+  vtoc-yes (given u) v b e h z k =
+      let t : v ≡ tableOf 16 x = h ∙ rw (parsed, e) refl in
+      rw (vtocNumbers, e) (sym (ap (λ (y : VolumeTableOfContents). given (vtocValues y b)) t ∙ ap (λ (i : ℕ). given (vtocValues (tableOf 16 x) i)) k))
+
+  pub vtoc-given : (v : VolumeTableOfContents) (b : ℕ) → v ≡ parsed 16 x → v .refusal ≡ 0 → b ≡ byteOf 16 x vtoc 49 → (y o : List ℕ) (r : ℕ)
+      → y ≡ vtocValues v b → Fields (given y) d o r → Fields (vtocNumbers x) d o r
+  vtoc-given v b h z k y o r e u = given-fields (vtocNumbers x) y d o r (vtoc-yes (readable 16 x) v b refl h z k ∙ rw (← e) refl) u
+
+pub bit-yes : (b : Bool) → b ≡ true → _≡_ {A = ℕ} 1 (cond b 1 0)
+bit-yes b e = rw e refl
+
+pub bit-no : (b : Bool) → b ≡ false → _≡_ {A = ℕ} 0 (cond b 1 0)
+bit-no b e = rw e refl
+
+pub ruleset tabling = (vtoc-refused, vtoc-given, bit-yes, bit-no, needs)
+
+-- ---- an archive
+module _ (a : List ℕ) (d : List ℕ) where
+  open-no : (p : Outcome Contents) (s : Opened) → opened a ≡ p → s ≡ openedWith p → (s .refusal ≡ 0 → ⊥) → Fields (openNumbers a) d d (s .refusal)
+  unfolding openNumbers
+  open-no (refused q) s e h z = refused-fields (openNumbers a) q d (s .refusal) (rw e refl) (ap (λ (y : Opened). y .refusal) h)
+  open-no (given c) s e h z = absurd (z (ap (λ (y : Opened). y .refusal) h))
+
+  pub open-refused : (s : Opened) → s ≡ openedWith (opened a) → (s .refusal ≡ 0 → ⊥) → Fields (openNumbers a) d d (s .refusal)
+  open-refused s h z = open-no (opened a) s refl h z
+
+  open-yes : (p : Outcome Contents) (s : Opened) → opened a ≡ p → s ≡ openedWith p → s .refusal ≡ 0 → openNumbers a ≡ given (s .volume ∷ s .first ∷ s .blocks ∷ [])
+  unfolding openNumbers
+  open-yes (refused q) s e h z = absurd (omega (arith, code-pos q, ap (λ (y : Opened). y .refusal) h))
+  open-yes (given c) s e h z = rw (openNumbers, e) (sym (ap (λ (y : Opened). given (y .volume ∷ y .first ∷ y .blocks ∷ [])) h))
+
+  pub open-given : (s : Opened) → s ≡ openedWith (opened a) → s .refusal ≡ 0 → (o : List ℕ) (r : ℕ)
+      → Fields (given (s .volume ∷ s .first ∷ s .blocks ∷ [])) d o r → Fields (openNumbers a) d o r
+  open-given s h z o r u = given-fields (openNumbers a) (s .volume ∷ s .first ∷ s .blocks ∷ []) d o r (open-yes (opened a) s refl h z) u
+
+  -- an entry beside no refusal
+  entry-zero : (i : ℕ) (fs : List File) (b : ℕ) → entryOf i fs b .refusal ≡ 0
+  unfolding entryOf fieldsOf
+  entry-zero i [] b = refl
+  entry-zero i (f ∷ fs) b = by-test (eqb i b) (λ e. rw e refl) (λ e. rw e (entry-zero _ fs b))
+
+  entry-no : (b : ℕ) (p : Outcome Contents) (s : Entry) → opened a ≡ p → s ≡ entryWith p b → (s .refusal ≡ 0 → ⊥) → Fields (entryNumbers a b) d d (s .refusal)
+  unfolding entryNumbers
+  entry-no b (refused q) s e h z = refused-fields (entryNumbers a b) q d (s .refusal) (rw e refl) (ap (λ (y : Entry). y .refusal) h)
+  entry-no b (given c) s e h z = absurd (z (ap (λ (y : Entry). y .refusal) h ∙ entry-zero 1 (c .files) b))
+
+  pub entry-refused : (b : ℕ) (s : Entry) → s ≡ entryWith (opened a) b → (s .refusal ≡ 0 → ⊥) → Fields (entryNumbers a b) d d (s .refusal)
+  entry-refused b s h z = entry-no b (opened a) s refl h z
+
+  entry-yes : (b : ℕ) (p : Outcome Contents) (s : Entry) → opened a ≡ p → s ≡ entryWith p b → s .refusal ≡ 0 → entryNumbers a b ≡ given (entryFields s)
+  unfolding entryNumbers
+  entry-yes b (refused q) s e h z = absurd (omega (arith, code-pos q, ap (λ (y : Entry). y .refusal) h))
+  entry-yes b (given c) s e h z = rw (entryNumbers, e) (sym (ap (λ (y : Entry). given (entryFields y)) h))
+
+  pub entry-given : (b : ℕ) (s : Entry) → s ≡ entryWith (opened a) b → s .refusal ≡ 0 → (o : List ℕ) (r : ℕ)
+      → Fields (given (entryFields s)) d o r → Fields (entryNumbers a b) d o r
+  entry-given b s h z o r u = given-fields (entryNumbers a b) (entryFields s) d o r (entry-yes b (opened a) s refl h z) u
+
+pub ruleset opening = (open-refused, open-given, entry-refused, entry-given, needs)
+
+-- ---- the recogniser
+module _ (x : List ℕ) (d : List ℕ) where
+  format-no : (p : Outcome Bool) (s : Format) → recognized x ≡ p → s ≡ formatOf p → (s .refusal ≡ 0 → ⊥) → Fields (formatNumbers x) d d (s .refusal)
+  unfolding formatNumbers
+  format-no (refused q) s e h z = refused-fields (formatNumbers x) q d (s .refusal) (rw e refl) (ap (λ (y : Format). y .refusal) h)
+  format-no (given c) s e h z = absurd (z (ap (λ (y : Format). y .refusal) h))
+
+  pub format-refused : (s : Format) → s ≡ formatOf (recognized x) → (s .refusal ≡ 0 → ⊥) → Fields (formatNumbers x) d d (s .refusal)
+  format-refused s h z = format-no (recognized x) s refl h z
+
+  format-yes : (p : Outcome Bool) (s : Format) → recognized x ≡ p → s ≡ formatOf p → s .refusal ≡ 0 → formatNumbers x ≡ given (cond (s .dos33) 1 0 ∷ [])
+  unfolding formatNumbers
+  format-yes (refused q) s e h z = absurd (omega (arith, code-pos q, ap (λ (y : Format). y .refusal) h))
+  format-yes (given c) s e h z = rw (formatNumbers, e) (sym (ap (λ (y : Format). given (cond (y .dos33) 1 0 ∷ [])) h))
+
+  pub format-given : (s : Format) → s ≡ formatOf (recognized x) → s .refusal ≡ 0 → (n : ℕ) → n ≡ cond (s .dos33) 1 0 → (o : List ℕ) (r : ℕ)
+      → Fields (given (n ∷ [])) d o r → Fields (formatNumbers x) d o r
+  format-given s h z n e o r u = given-fields (formatNumbers x) (n ∷ []) d o r (format-yes (recognized x) s refl h z ∙ rw (← e) refl) u
+
+pub ruleset recognising = (format-refused, format-given, needs)
+
+-- ---- the window
+module _ (w : Outcome (List ℕ)) (o : List ℕ) (n : ℕ) where
+  pub window-refused : (k : ℕ) → k ≡ number w → (k ≡ 0 → ⊥) → Exports w o o n n k
+  window-refused k e z = go w e
+    where
+      go : (p : Outcome (List ℕ)) → k ≡ number p → Exports p o o n n k
+      go (refused q) h = record { result = h; left = refl; length = refl }
+      go (given y) h = absurd (z h)
+
+  window-is : (p : Outcome (List ℕ)) (k : ℕ) (y : List ℕ) → k ≡ number p → k ≡ 0 → y ≡ part p → p ≡ given y
+  window-is (refused q) k y e z h = absurd (omega (arith, code-pos q))
+  window-is (given x) k y e z h = ap given (sym h)
+
+  module _ (k : ℕ) (e : k ≡ number w) (z : k ≡ 0) (y : List ℕ) (h : y ≡ part w) where
+    pub window-short : length o < length y → Exports w o o n n 12
+    window-short l =
+        let p = window-is w k y e z h in
+        let f : leb (length y) (length o) ≡ false = lt-leb (length y) (length o) l in
+        record { result = rw (p, f) refl; left = rw (p, f) refl; length = rw (p, f) refl }
+
+    pub window-done : length y ≤ length o → (o′ : List ℕ) → o′ ≡ placed 0 y o → Exports w o o′ n (length y) 0
+    window-done l o′ q =
+        let p = window-is w k y e z h in
+        let f : leb (length y) (length o) ≡ true = le-leb (length y) (length o) l in
+        record { result = rw (p, f) refl; left = rw (p, f) (put-front (placed-put q (omega arith))); length = rw (p, f) refl }
+
+pub ruleset windows = (window-refused, window-short, window-done, needs)
