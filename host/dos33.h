@@ -1,0 +1,194 @@
+/*
+ * Apple DOS 3.3 disks, nibble streams and archives. Link libhost.a (`rt staticlib host`).
+ *
+ * Duties of the caller, for every function:
+ *   - each pointer is valid for its length, and not null, even where the length is 0;
+ *   - `length` points to one uint64_t; the length of `fields` is in elements;
+ *   - what is lent to be written (`out`, `length`, `fields`) overlaps nothing else that is lent.
+ * There is no other: any bytes and any numbers may be handed in.
+ *
+ * The result is 0 for accepted, or the number of a refusal (below). Only
+ * dos33_recognize_prologue gives something else.
+ *   - Under a refusal nothing lent changes.
+ *   - Where a call is accepted, `out` receives the bytes and *length their number, or `fields`
+ *     its numbers in the order given. What lies past them keeps its content.
+ * Each comment names the refusals in the order in which they are tested. A yes or no handed in is a
+ * uint8_t: 0 is no, anything else is yes. A type is one of the codes below.
+ *
+ * Stack: dos33_archive_open and dos33_archive_entry go as deep as the archive has blocks. Under
+ * 352 KiB were measured for 4,096 blocks, and under 48 KiB for every other function.
+ */
+#ifndef DOS33_H
+#define DOS33_H
+
+#include <stddef.h>
+#include <stdint.h>
+
+#ifdef __cplusplus
+extern "C" {
+#endif
+
+/* Refusals. */
+enum {
+    DOS33_ACCEPTED = 0,
+    DOS33_OFF_SIZE = 1,         /* flat disk not 143,360 bytes; sector to encode not 256 */
+    DOS33_NO_TABLE = 2,         /* the VTOC check fails */
+    DOS33_OFF_DISC = 3,         /* a page, list, pair or location is not on the disk */
+    DOS33_RING = 4,             /* a link leads to a sector already read in its own chain */
+    DOS33_CUT_LINK = 5,         /* list: next track nonzero, next sector 0 */
+    DOS33_BAD_LETTER = 6,       /* a live name holds 80h */
+    DOS33_OVERLONG = 7,         /* archive over 4,096 blocks */
+    DOS33_ADDRESS_SUM = 8,      /* any whole address that the search meets */
+    DOS33_DATA_SUM = 9,         /* a field that counts */
+    DOS33_ABSENT = 10,          /* sector not in the stream */
+    DOS33_STRANGER = 11,        /* track over 34, sector over 15 or a second volume */
+    DOS33_TRAY_SHORT = 12,      /* lent space under the need */
+    DOS33_NOT_ITS_RETURN = 13,  /* not the disk's archive, or no archive */
+    DOS33_UNWRITABLE_NAME = 14, /* empty, over 30, byte 80h or more */
+    DOS33_NOT_BINARY = 15,      /* a file of another type */
+    DOS33_PAGE_FULL = 16,       /* over 7 entries */
+    DOS33_CUT_SHORT = 17,       /* too few bytes to recognise */
+    DOS33_NOT_ON_ROLL = 18      /* no entry has the name asked for */
+};
+
+/* File types. Any other code is Unknown. */
+enum {
+    DOS33_TEXT = 0,
+    DOS33_INTEGER_BASIC = 1,
+    DOS33_APPLESOFT_BASIC = 2,
+    DOS33_BINARY = 4,
+    DOS33_S = 8,
+    DOS33_RELOCATABLE = 10,
+    DOS33_A = 20,
+    DOS33_B = 40,
+    DOS33_UNKNOWN = 41
+};
+
+/* Space that is always enough. */
+enum {
+    DOS33_SECTOR_SIZE = 256,
+    DOS33_DISK_SIZE = 143360,       /* denibblize */
+    DOS33_STREAM_SIZE = 232960,     /* nibblize */
+    DOS33_CATALOG_MOST = 145040,    /* catalog: 37 * 7 * 560 */
+    DOS33_LISTS_MOST = 1120,        /* lists: 2 * 560 */
+    DOS33_PAIRS_MOST = 242,         /* pairs: 2 * 121 */
+    DOS33_FILE_MOST = 65536,        /* file, fetch */
+    DOS33_ARCHIVE_MOST = 1048576,   /* archive_write: 256 * 4096 */
+    DOS33_NIBBLES_SIZE = 343,       /* encode_sector */
+    DOS33_ENTRY_SIZE = 35,          /* entry_record */
+    DOS33_VTOC_FIELDS = 13,
+    DOS33_SURVEY_FIELDS = 7,
+    DOS33_OPEN_FIELDS = 3,
+    DOS33_STEP_FIELDS = 8,
+    DOS33_FORMAT_FIELDS = 1
+};
+
+/* The 256 bytes of a sector, of `disk` if flat, else of `image`; the other one is not read.
+   1, 3, 12. */
+uint8_t dos33_window(const uint8_t *disk, size_t disk_length,
+                     const uint8_t *image, size_t image_length,
+                     uint8_t flat, uint8_t track, uint8_t sector,
+                     uint8_t *out, size_t out_length, uint64_t *length);
+
+/* 13 numbers: first catalog track, first catalog sector, release, volume byte, pair maximum,
+   last track, direction (the byte, 255 for -1), tracks, sectors, sector size, free, used, fill.
+   1, 2, 12. */
+uint8_t dos33_vtoc(const uint8_t *disk, size_t disk_length,
+                   uint64_t *fields, size_t fields_length);
+
+/* The live entries, 37 bytes each: 0 list track, 1 list sector, 2 type, 3 lock, 4 name length,
+   5-34 shown name then zeros, 35-36 sector count (low byte first).
+   1, 2, then page by page 3, 4, 6; 12. */
+uint8_t dos33_catalog(const uint8_t *disk, size_t disk_length,
+                      uint8_t *out, size_t out_length, uint64_t *length);
+
+/* Track and sector of each track/sector list of entry number `entry`, from 0. A number past the
+   catalog has none. 1 to 6, 12. */
+uint8_t dos33_lists(const uint8_t *disk, size_t disk_length, uint64_t entry,
+                    uint8_t *out, size_t out_length, uint64_t *length);
+
+/* Track and sector of each pair of the list at that location. They are not followed. 1, 3, 12. */
+uint8_t dos33_pairs(const uint8_t *disk, size_t disk_length, uint8_t track, uint8_t sector,
+                    uint8_t *out, size_t out_length, uint64_t *length);
+
+/* The bytes of entry number `entry`, from 0. A number past the catalog has none. 1 to 6, 12. */
+uint8_t dos33_file(const uint8_t *disk, size_t disk_length, uint64_t entry,
+                   uint8_t *out, size_t out_length, uint64_t *length);
+
+/* The bytes of the last entry whose shown name is `name`. 1 to 6, 18, 12. */
+uint8_t dos33_fetch(const uint8_t *disk, size_t disk_length,
+                    const uint8_t *name, size_t name_length,
+                    uint8_t *out, size_t out_length, uint64_t *length);
+
+/* 7 numbers: volume, number of entries, free, used, fill, archive blocks, links followed.
+   1 to 6, 12. */
+uint8_t dos33_survey(const uint8_t *disk, size_t disk_length,
+                     uint64_t *fields, size_t fields_length);
+
+/* The disk's archive. 1 to 6, 7, 12. */
+uint8_t dos33_archive_write(const uint8_t *disk, size_t disk_length,
+                            uint8_t *out, size_t out_length, uint64_t *length);
+
+/* Accepted exactly where `archive` is the disk's archive. 1 to 6, 7, 13. */
+uint8_t dos33_archive_check(const uint8_t *disk, size_t disk_length,
+                            const uint8_t *archive, size_t archive_length);
+
+/* 3 numbers: volume byte, first entry block (0: none), number of blocks. 13, 12. */
+uint8_t dos33_archive_open(const uint8_t *archive, size_t archive_length,
+                           uint64_t *fields, size_t fields_length);
+
+/* 8 numbers of the entry whose entry block is `block`: 1, next entry block (0 after the last),
+   first data block (0: no data), type, lock, name length, sector count, data length. The name
+   stands at 256 * block + 7. Any other block is the end: eight zeros. A data block has the next
+   data block in bytes 0-1 (low byte first, 0 after the last) and up to 254 bytes of data from
+   byte 2. 13, 12. */
+uint8_t dos33_archive_entry(const uint8_t *archive, size_t archive_length, uint64_t block,
+                            uint64_t *fields, size_t fields_length);
+
+/* 343 bytes: the 342 nibbles of a sector and the sum nibble. 1, 12. */
+uint8_t dos33_encode_sector(const uint8_t *sector, size_t sector_length,
+                            uint8_t *out, size_t out_length, uint64_t *length);
+
+/* The 256 bytes of the field whose address has that volume, track and sector (the address's, not
+   the DOS sector). 8, 9, 10, 12. */
+uint8_t dos33_sector(const uint8_t *stream, size_t stream_length,
+                     uint8_t volume, uint8_t track, uint8_t sector,
+                     uint8_t *out, size_t out_length, uint64_t *length);
+
+/* The flat disk of a nibble stream. 8, 11, 9, 10, 12. */
+uint8_t dos33_denibblize(const uint8_t *stream, size_t stream_length,
+                         uint8_t *out, size_t out_length, uint64_t *length);
+
+/* The nibble stream of a flat disk. 1, 12. */
+uint8_t dos33_nibblize(const uint8_t *disk, size_t disk_length,
+                       uint8_t *out, size_t out_length, uint64_t *length);
+
+/* The 35 bytes of a catalog entry. 14, 12. */
+uint8_t dos33_entry_record(uint8_t track, uint8_t sector, uint8_t kind, uint8_t locked,
+                           const uint8_t *name, size_t name_length, uint16_t count,
+                           uint8_t *out, size_t out_length, uint64_t *length);
+
+/* The 256 bytes of a catalog page. `header` is its bytes 0-10 (short: the rest are zero; long: the
+   rest is not read). `entries` is in the 37-byte form of dos33_catalog, as many as fit whole.
+   16, 14, 12. */
+uint8_t dos33_catalog_page(const uint8_t *header, size_t header_length,
+                           const uint8_t *entries, size_t entries_length,
+                           uint8_t *out, size_t out_length, uint64_t *length);
+
+/* Address, size as given, data: 4 bytes more than the data. 15, 12. */
+uint8_t dos33_binary_file(uint8_t kind, uint16_t address, uint16_t size,
+                          const uint8_t *data, size_t data_length,
+                          uint8_t *out, size_t out_length, uint64_t *length);
+
+/* The result is 96h or B5h, whichever first follows D5 AA (h), or 0 for none. */
+uint8_t dos33_recognize_prologue(const uint8_t *stream, size_t stream_length);
+
+/* 1 number: 1 for a DOS 3.3 disk, else 0. 17, 12. */
+uint8_t dos33_format_from_data(const uint8_t *data, size_t data_length,
+                               uint64_t *fields, size_t fields_length);
+
+#ifdef __cplusplus
+}
+#endif
+
+#endif

@@ -1,0 +1,222 @@
+use std::iter::FusedIterator;
+
+use crate::types::text;
+use crate::{lend, raw, FileType, Refusal};
+
+/// An archive that was opened: the contents of a disk in blocks of 256 bytes. It is lent, not copied.
+///
+/// ```
+/// use dos33::{Archive, Refusal};
+///
+/// // The archive of an empty disk of volume 254.
+/// let mut bytes = [0; 256];
+/// bytes[0] = 254;
+/// bytes[3] = 1;
+/// let archive = Archive::open(&bytes)?;
+/// assert_eq!(archive.volume(), 254);
+/// assert_eq!(archive.entries().count(), 0);
+///
+/// assert_eq!(Archive::open(b"no archive").unwrap_err(), Refusal::NotItsReturn);
+/// # Ok::<(), Refusal>(())
+/// ```
+#[derive(Clone, Copy, Debug)]
+pub struct Archive<'a> {
+    bytes: &'a [u8],
+    volume: u8,
+    first: u64,
+    blocks: usize,
+}
+
+impl<'a> Archive<'a> {
+    /// Opens an archive. No disk is needed.
+    ///
+    /// This and each step of [`entries`](Archive::entries) go as deep as there are blocks: in a thread
+    /// of your own, give it 512 KiB of stack or more. (Rust's threads have 2 MiB.)
+    ///
+    /// # Errors
+    /// 13 for bytes that are the archive of no contents.
+    pub fn open(bytes: &'a [u8]) -> Result<Archive<'a>, Refusal> {
+        // SAFETY: the archive is lent for reading, the numbers are this call's own.
+        let f: [u64; 3] = lend::numbers(|p, n| unsafe {
+            raw::dos33_archive_open(bytes.as_ptr(), bytes.len(), p, n)
+        })?;
+        Ok(Archive {
+            bytes,
+            volume: f[0] as u8,
+            first: f[1],
+            blocks: f[2] as usize,
+        })
+    }
+
+    /// The volume byte.
+    pub fn volume(&self) -> u8 {
+        self.volume
+    }
+
+    /// The number of blocks, at most 4,096.
+    pub fn blocks(&self) -> usize {
+        self.blocks
+    }
+
+    /// The bytes that were opened.
+    pub fn bytes(&self) -> &'a [u8] {
+        self.bytes
+    }
+
+    /// The entries, each once and in order.
+    ///
+    /// The library judges the whole archive again at each step: about a millisecond where it has
+    /// 4,096 blocks, so some seconds for 4,095 entries, and little for the archive of an ordinary disk.
+    pub fn entries(&self) -> Entries<'a> {
+        Entries {
+            bytes: self.bytes,
+            block: self.first,
+        }
+    }
+}
+
+impl<'a> IntoIterator for Archive<'a> {
+    type Item = ArchiveEntry<'a>;
+    type IntoIter = Entries<'a>;
+
+    fn into_iter(self) -> Entries<'a> {
+        self.entries()
+    }
+}
+
+impl<'a> IntoIterator for &Archive<'a> {
+    type Item = ArchiveEntry<'a>;
+    type IntoIter = Entries<'a>;
+
+    fn into_iter(self) -> Entries<'a> {
+        self.entries()
+    }
+}
+
+/// The entries of an archive: [`Archive::entries`].
+#[derive(Clone, Debug)]
+pub struct Entries<'a> {
+    bytes: &'a [u8],
+    // The entry block that is next; 0 at the end.
+    block: u64,
+}
+
+impl<'a> Iterator for Entries<'a> {
+    type Item = ArchiveEntry<'a>;
+
+    fn next(&mut self) -> Option<ArchiveEntry<'a>> {
+        if self.block == 0 {
+            return None;
+        }
+        let (s, block) = (self.bytes, self.block);
+        self.block = 0;
+        // SAFETY: the archive is lent for reading, the numbers are this call's own.
+        // Opened bytes that are still lent are never refused.
+        let f: [u64; 8] = lend::numbers(|p, n| unsafe {
+            raw::dos33_archive_entry(s.as_ptr(), s.len(), block, p, n)
+        })
+        .ok()?;
+        if f[0] == 0 {
+            return None;
+        }
+        self.block = f[1];
+        let at = 256 * block as usize + 7;
+        Some(ArchiveEntry {
+            bytes: s,
+            first: f[2] as usize,
+            kind: FileType::from_code(f[3] as u8),
+            locked: f[4] != 0,
+            name: s.get(at..at + f[5] as usize)?,
+            sectors: f[6] as u16,
+            length: f[7] as usize,
+        })
+    }
+}
+
+impl FusedIterator for Entries<'_> {}
+
+/// An entry of an archive. Its name and its data are lent from the archive.
+#[derive(Clone, Copy, Debug)]
+pub struct ArchiveEntry<'a> {
+    bytes: &'a [u8],
+    first: usize,
+    kind: FileType,
+    locked: bool,
+    name: &'a [u8],
+    sectors: u16,
+    length: usize,
+}
+
+impl<'a> ArchiveEntry<'a> {
+    /// The name: ASCII, at most 30 bytes. It may hold control characters.
+    pub fn name(&self) -> &'a str {
+        text(self.name)
+    }
+
+    /// The type.
+    pub fn kind(&self) -> FileType {
+        self.kind
+    }
+
+    /// Whether it is locked.
+    pub fn locked(&self) -> bool {
+        self.locked
+    }
+
+    /// The sector count, as the catalog states it.
+    pub fn sectors(&self) -> u16 {
+        self.sectors
+    }
+
+    /// The number of data bytes.
+    pub fn len(&self) -> usize {
+        self.length
+    }
+
+    /// Whether it has no data.
+    pub fn is_empty(&self) -> bool {
+        self.length == 0
+    }
+
+    /// The data, in the parts in which the blocks hold it: 254 bytes, and the rest in the last.
+    pub fn data(&self) -> Data<'a> {
+        Data {
+            bytes: self.bytes,
+            block: self.first,
+            left: self.length,
+        }
+    }
+
+    /// The data, copied into one piece.
+    pub fn to_vec(&self) -> Vec<u8> {
+        let mut all = Vec::new();
+        self.data().for_each(|part| all.extend_from_slice(part));
+        all
+    }
+}
+
+/// The parts of an entry's data: [`ArchiveEntry::data`].
+#[derive(Clone, Debug)]
+pub struct Data<'a> {
+    bytes: &'a [u8],
+    // The data block that is next, and how many bytes are left.
+    block: usize,
+    left: usize,
+}
+
+impl<'a> Iterator for Data<'a> {
+    type Item = &'a [u8];
+
+    fn next(&mut self) -> Option<&'a [u8]> {
+        if self.block == 0 || self.left == 0 {
+            return None;
+        }
+        let s = self.bytes.get(256 * self.block..256 * self.block + 256)?;
+        let part = &s[2..2 + self.left.min(254)];
+        self.block = usize::from(u16::from_le_bytes([s[0], s[1]]));
+        self.left -= part.len();
+        Some(part)
+    }
+}
+
+impl FusedIterator for Data<'_> {}

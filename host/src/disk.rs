@@ -1,0 +1,255 @@
+use crate::types::locations;
+use crate::{
+    denibblize, lend, nibblize, raw, CatalogEntry, FileType, Location, Name, Refusal, Sector,
+    Survey, Track, Vtoc,
+};
+
+// The most that each call can need.
+const CATALOG_MOST: usize = 37 * 7 * 560;
+const LISTS_MOST: usize = 2 * 560;
+const PAIRS_MOST: usize = 2 * 121;
+// A length of 65,535 at most, or all of 256 sectors at most: with one sector more every length fits.
+const FILE_MOST: usize = 65_536;
+const ARCHIVE_MOST: usize = 256 * 4096;
+
+/// A disk: a flat image that is borrowed, or the image of a nibble stream.
+///
+/// ```
+/// use dos33::{Disk, Sector, Track};
+///
+/// // An empty disk of volume 254.
+/// let mut bytes = vec![0; dos33::DISK_SIZE];
+/// let vtoc = 17 * 4096;
+/// bytes[vtoc + 2] = 15;
+/// bytes[vtoc + 6] = 254;
+/// bytes[vtoc + 52] = 35;
+/// bytes[vtoc + 53] = 16;
+///
+/// let disk = Disk::flat(&bytes);
+/// assert_eq!(disk.vtoc()?.volume, 254);
+/// assert!(disk.catalog()?.is_empty());
+/// assert_eq!(disk.sector(Track(17), Sector(0))?[52], 35);
+///
+/// // The same disk as nibbles has the same archive.
+/// let stream = disk.nibblize()?;
+/// let other = Disk::nibbles(&stream)?;
+/// other.check(&disk.archive()?)?;
+/// # Ok::<(), dos33::Refusal>(())
+/// ```
+#[derive(Clone, Debug)]
+pub struct Disk<'a> {
+    image: Image<'a>,
+}
+
+#[derive(Clone, Debug)]
+enum Image<'a> {
+    Flat(&'a [u8]),
+    Unrolled(Vec<u8>),
+}
+
+impl<'a> Disk<'a> {
+    /// A flat disk, tracks and DOS sectors in order. Nothing is copied or judged here: each call
+    /// refuses bytes of a wrong size as [`Refusal::OffSize`].
+    pub fn flat(bytes: &'a [u8]) -> Disk<'a> {
+        Disk {
+            image: Image::Flat(bytes),
+        }
+    }
+
+    /// The disk of a nibble stream, which is denibblized here, once.
+    ///
+    /// # Errors
+    /// 8, 11, 9, 10, in this order.
+    pub fn nibbles(stream: &[u8]) -> Result<Disk<'static>, Refusal> {
+        Ok(Disk {
+            image: Image::Unrolled(denibblize(stream)?),
+        })
+    }
+
+    /// The flat bytes: those handed in, or those of the stream.
+    pub fn bytes(&self) -> &[u8] {
+        match &self.image {
+            Image::Flat(bytes) => bytes,
+            Image::Unrolled(bytes) => bytes,
+        }
+    }
+
+    /// The live entries of the catalog, in order.
+    ///
+    /// # Errors
+    /// 1, 2, then page by page 3, 4, 6.
+    pub fn catalog(&self) -> Result<Vec<CatalogEntry>, Refusal> {
+        let d = self.bytes();
+        // SAFETY: slices of this function, the written ones its own.
+        let roll = lend::bytes(CATALOG_MOST, |o, n, l| unsafe {
+            raw::dos33_catalog(d.as_ptr(), d.len(), o, n, l)
+        })?;
+        Ok(roll.chunks_exact(37).map(entry).collect())
+    }
+
+    /// The bytes of entry number `index` of the catalog, from 0. A file that is not Binary has none,
+    /// nor has a number past the catalog. Every file of the disk is judged, whichever is asked for.
+    ///
+    /// # Errors
+    /// 1 to 6.
+    pub fn file(&self, index: usize) -> Result<Vec<u8>, Refusal> {
+        let d = self.bytes();
+        // SAFETY: as in `catalog`.
+        lend::bytes(FILE_MOST, |o, n, l| unsafe {
+            raw::dos33_file(d.as_ptr(), d.len(), index as u64, o, n, l)
+        })
+    }
+
+    /// The bytes of the last entry with that name, as the catalog shows it.
+    ///
+    /// # Errors
+    /// 1 to 6, 18.
+    pub fn fetch(&self, name: impl AsRef<[u8]>) -> Result<Vec<u8>, Refusal> {
+        let d = self.bytes();
+        let name = name.as_ref();
+        // SAFETY: as in `catalog`.
+        lend::bytes(FILE_MOST, |o, n, l| unsafe {
+            raw::dos33_fetch(d.as_ptr(), d.len(), name.as_ptr(), name.len(), o, n, l)
+        })
+    }
+
+    /// The track/sector lists of entry number `index`, in order; none for a number past the catalog.
+    ///
+    /// # Errors
+    /// 1 to 6.
+    pub fn lists(&self, index: usize) -> Result<Vec<Location>, Refusal> {
+        let d = self.bytes();
+        // SAFETY: as in `catalog`.
+        let run = lend::bytes(LISTS_MOST, |o, n, l| unsafe {
+            raw::dos33_lists(d.as_ptr(), d.len(), index as u64, o, n, l)
+        })?;
+        Ok(locations(&run))
+    }
+
+    /// The pairs of the track/sector list at a location. They are not followed: each may be off the disk.
+    ///
+    /// # Errors
+    /// 1, 3.
+    pub fn pairs(&self, track: Track, sector: Sector) -> Result<Vec<Location>, Refusal> {
+        let d = self.bytes();
+        // SAFETY: as in `catalog`.
+        let run = lend::bytes(PAIRS_MOST, |o, n, l| unsafe {
+            raw::dos33_pairs(d.as_ptr(), d.len(), track.0, sector.0, o, n, l)
+        })?;
+        Ok(locations(&run))
+    }
+
+    /// The bytes of a sector.
+    ///
+    /// # Errors
+    /// 1, 3.
+    pub fn sector(&self, track: Track, sector: Sector) -> Result<[u8; 256], Refusal> {
+        let (d, i, flat): (&[u8], &[u8], u8) = match &self.image {
+            Image::Flat(bytes) => (bytes, &[], 1),
+            Image::Unrolled(bytes) => (&[], bytes, 0),
+        };
+        // SAFETY: as in `catalog`.
+        lend::array(|o, n, l| unsafe {
+            raw::dos33_window(
+                d.as_ptr(),
+                d.len(),
+                i.as_ptr(),
+                i.len(),
+                flat,
+                track.0,
+                sector.0,
+                o,
+                n,
+                l,
+            )
+        })
+    }
+
+    /// The volume table of contents.
+    ///
+    /// # Errors
+    /// 1, 2.
+    pub fn vtoc(&self) -> Result<Vtoc, Refusal> {
+        let d = self.bytes();
+        // SAFETY: as in `catalog`.
+        let f: [u64; 13] =
+            lend::numbers(|p, n| unsafe { raw::dos33_vtoc(d.as_ptr(), d.len(), p, n) })?;
+        Ok(Vtoc {
+            catalog: Location::new(Track(f[0] as u8), Sector(f[1] as u8)),
+            release: f[2] as u8,
+            volume: f[3] as u8,
+            pair_maximum: f[4] as u8,
+            last_track: Track(f[5] as u8),
+            direction: f[6] as u8 as i8,
+            tracks: f[7] as u8,
+            sectors: f[8] as u8,
+            sector_size: f[9] as u16,
+            free: f[10] as u16,
+            used: f[11] as u16,
+            percent_used: f[12] as u8,
+        })
+    }
+
+    /// The disk in seven numbers. All of it is judged, as the archive is, but for its length.
+    ///
+    /// # Errors
+    /// 1 to 6.
+    pub fn survey(&self) -> Result<Survey, Refusal> {
+        let d = self.bytes();
+        // SAFETY: as in `catalog`.
+        let f: [u64; 7] =
+            lend::numbers(|p, n| unsafe { raw::dos33_survey(d.as_ptr(), d.len(), p, n) })?;
+        Ok(Survey {
+            volume: f[0] as u8,
+            entries: f[1],
+            free: f[2] as u16,
+            used: f[3] as u16,
+            percent_used: f[4] as u8,
+            archive_blocks: f[5],
+            links: f[6],
+        })
+    }
+
+    /// The disk's archive; [`Archive::open`](crate::Archive::open) steps through it.
+    ///
+    /// # Errors
+    /// 1 to 6, 7.
+    pub fn archive(&self) -> Result<Vec<u8>, Refusal> {
+        let d = self.bytes();
+        // SAFETY: as in `catalog`.
+        lend::bytes(ARCHIVE_MOST, |o, n, l| unsafe {
+            raw::dos33_archive_write(d.as_ptr(), d.len(), o, n, l)
+        })
+    }
+
+    /// Accepted exactly where `archive` is this disk's archive, to the last byte.
+    ///
+    /// # Errors
+    /// 1 to 6, 7, 13.
+    pub fn check(&self, archive: &[u8]) -> Result<(), Refusal> {
+        let d = self.bytes();
+        // SAFETY: both slices are lent for reading alone.
+        lend::accepted(unsafe {
+            raw::dos33_archive_check(d.as_ptr(), d.len(), archive.as_ptr(), archive.len())
+        })
+    }
+
+    /// The disk as a nibble stream of 232,960 bytes, with the VTOC's volume.
+    ///
+    /// # Errors
+    /// 1.
+    pub fn nibblize(&self) -> Result<Vec<u8>, Refusal> {
+        nibblize(self.bytes())
+    }
+}
+
+// An entry in the 37 bytes of the catalog call.
+fn entry(e: &[u8]) -> CatalogEntry {
+    CatalogEntry {
+        list: Location::new(Track(e[0]), Sector(e[1])),
+        kind: FileType::from_code(e[2]),
+        locked: e[3] != 0,
+        name: Name::shown(&e[5..35], e[4]),
+        sectors: u16::from_le_bytes([e[35], e[36]]),
+    }
+}

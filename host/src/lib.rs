@@ -1,0 +1,71 @@
+//! Apple DOS 3.3 disks for displays and tools: catalog, files, nibble streams and archives.
+//!
+//! The work is done by functions that are proved to give what document 01 defines, on every input.
+//! This crate lends them the space they need, and takes apart what they hand over. No call panics;
+//! what cannot be done is a [`Refusal`].
+//!
+//! ```
+//! use dos33::{binary_file, catalog_page, Archive, Disk, EntryRecord, FileType, Location, Sector, Track};
+//!
+//! // A disk with one Binary file: its list at 18/0, its only sector at 18/1.
+//! let mut bytes = vec![0; dos33::DISK_SIZE];
+//! let at = |track: usize, sector: usize| 4096 * track + 256 * sector;
+//! bytes[at(17, 0) + 2] = 15; // first catalog page
+//! bytes[at(17, 0) + 52] = 35;
+//! bytes[at(17, 0) + 53] = 16;
+//! let list = Location::new(Track(18), Sector(0));
+//! let record = EntryRecord { list, kind: FileType::Binary, locked: false, name: b"LINE", sectors: 2 };
+//! bytes[at(17, 15)..][..256].copy_from_slice(&catalog_page(&[], &[record])?);
+//! bytes[at(18, 0) + 12..][..2].copy_from_slice(&[18, 1]);
+//! let file = binary_file(FileType::Binary, 0x2000, 5, b"HELLO")?;
+//! bytes[at(18, 1)..][..file.len()].copy_from_slice(&file);
+//!
+//! let disk = Disk::flat(&bytes);
+//! assert_eq!(disk.catalog()?[0].name, "LINE");
+//! assert_eq!(disk.fetch("LINE")?, b"HELLO");
+//!
+//! let bytes = disk.archive()?;
+//! let archive = Archive::open(&bytes)?;
+//! for entry in &archive {
+//!     println!("{} has {} bytes", entry.name(), entry.len());
+//!     for part in entry.data() {
+//!         assert_eq!(part, b"HELLO"); // lent from the archive
+//!     }
+//! }
+//! # assert_eq!(archive.entries().count(), 1);
+//! # Ok::<(), dos33::Refusal>(())
+//! ```
+//!
+//! | document 01 | here |
+//! |---|---|
+//! | disc, roll, thread, load | [`Disk`], [`Disk::catalog`], [`Disk::lists`], [`Disk::file`] |
+//! | window, survey | [`Disk::sector`], [`Disk::survey`] |
+//! | return | [`Disk::archive`], [`Disk::check`], [`Archive`] |
+//! | unroll, nibble writer | [`denibblize`], [`nibblize`] |
+//! | slip, number | [`Refusal`], [`Refusal::number`] |
+#![warn(missing_docs)]
+
+mod archive;
+mod disk;
+mod lend;
+mod nibbles;
+pub mod raw;
+mod records;
+mod refusal;
+mod types;
+
+pub use archive::{Archive, ArchiveEntry, Data, Entries};
+pub use disk::Disk;
+pub use nibbles::{
+    denibblize, encode_sector, format_from_data, nibblize, recognize_prologue, stream_sector, Key,
+    Prologue,
+};
+pub use records::{binary_file, catalog_page, EntryRecord};
+pub use refusal::Refusal;
+pub use types::{CatalogEntry, FileType, Location, Name, Sector, Survey, Track, Vtoc};
+
+/// The bytes of a flat disk: 35 tracks of 16 sectors of 256.
+pub const DISK_SIZE: usize = 143_360;
+
+/// The bytes of a stream that [`nibblize`] writes.
+pub const STREAM_SIZE: usize = 232_960;

@@ -1,0 +1,221 @@
+//! The exported functions as they are. The safe calls of this crate stand on them.
+//!
+//! A slice is a pointer and a length (of `fields`: in elements). The result is the number of a
+//! refusal, 0 for accepted; only [`dos33_recognize_prologue`] gives something else. Under a refusal
+//! nothing lent changes. Where a call is accepted, `out` receives the bytes and `*length` their
+//! number, or `fields` its numbers; what lies past them keeps its content.
+//!
+//! # Safety
+//!
+//! For each of them: every pointer is valid for its length and not null, even for length 0;
+//! nothing lent to be written overlaps anything else that is lent. There is no other duty.
+#![allow(clippy::missing_safety_doc)]
+
+extern "C" {
+    /// The 256 bytes of a sector, of `disk` if `flat` is not 0, else of `image`. Refusals 1, 3, 12.
+    pub fn dos33_window(
+        disk: *const u8,
+        disk_length: usize,
+        image: *const u8,
+        image_length: usize,
+        flat: u8,
+        track: u8,
+        sector: u8,
+        out: *mut u8,
+        out_length: usize,
+        length: *mut u64,
+    ) -> u8;
+
+    /// 13 numbers: first catalog track, first catalog sector, release, volume byte, pair maximum, last
+    /// track, direction (a byte), tracks, sectors, sector size, free, used, fill. Refusals 1, 2, 12.
+    pub fn dos33_vtoc(
+        disk: *const u8,
+        disk_length: usize,
+        fields: *mut u64,
+        fields_length: usize,
+    ) -> u8;
+
+    /// The catalog, 37 bytes an entry: 0 list track, 1 list sector, 2 type, 3 lock, 4 name length, 5-34
+    /// shown name then zeros, 35-36 sector count. Refusals 1, 2, pages (3, 4, 6), 12.
+    pub fn dos33_catalog(
+        disk: *const u8,
+        disk_length: usize,
+        out: *mut u8,
+        out_length: usize,
+        length: *mut u64,
+    ) -> u8;
+
+    /// Track and sector of each list of entry number `entry`. Refusals 1 to 6, 12.
+    pub fn dos33_lists(
+        disk: *const u8,
+        disk_length: usize,
+        entry: u64,
+        out: *mut u8,
+        out_length: usize,
+        length: *mut u64,
+    ) -> u8;
+
+    /// Track and sector of each pair of the list at a location. Refusals 1, 3, 12.
+    pub fn dos33_pairs(
+        disk: *const u8,
+        disk_length: usize,
+        track: u8,
+        sector: u8,
+        out: *mut u8,
+        out_length: usize,
+        length: *mut u64,
+    ) -> u8;
+
+    /// The bytes of entry number `entry`. Refusals 1 to 6, 12.
+    pub fn dos33_file(
+        disk: *const u8,
+        disk_length: usize,
+        entry: u64,
+        out: *mut u8,
+        out_length: usize,
+        length: *mut u64,
+    ) -> u8;
+
+    /// The bytes of the last entry whose shown name is `name`. Refusals 1 to 6, 18, 12.
+    pub fn dos33_fetch(
+        disk: *const u8,
+        disk_length: usize,
+        name: *const u8,
+        name_length: usize,
+        out: *mut u8,
+        out_length: usize,
+        length: *mut u64,
+    ) -> u8;
+
+    /// 7 numbers: volume, number of entries, free, used, fill, archive blocks, links followed.
+    /// Refusals 1 to 6, 12.
+    pub fn dos33_survey(
+        disk: *const u8,
+        disk_length: usize,
+        fields: *mut u64,
+        fields_length: usize,
+    ) -> u8;
+
+    /// The disk's archive. Refusals 1 to 6, 7, 12.
+    pub fn dos33_archive_write(
+        disk: *const u8,
+        disk_length: usize,
+        out: *mut u8,
+        out_length: usize,
+        length: *mut u64,
+    ) -> u8;
+
+    /// Accepted exactly where `archive` is the disk's archive. Refusals 1 to 6, 7, 13.
+    pub fn dos33_archive_check(
+        disk: *const u8,
+        disk_length: usize,
+        archive: *const u8,
+        archive_length: usize,
+    ) -> u8;
+
+    /// 3 numbers: volume byte, first entry block (0: none), number of blocks. Refusals 13, 12.
+    pub fn dos33_archive_open(
+        archive: *const u8,
+        archive_length: usize,
+        fields: *mut u64,
+        fields_length: usize,
+    ) -> u8;
+
+    /// 8 numbers of the entry whose entry block is `block`: 1, next entry block, first data block, type,
+    /// lock, name length, sector count, data length. Any other block is the end: eight zeros.
+    /// Refusals 13, 12.
+    pub fn dos33_archive_entry(
+        archive: *const u8,
+        archive_length: usize,
+        block: u64,
+        fields: *mut u64,
+        fields_length: usize,
+    ) -> u8;
+
+    /// 343 bytes: the 342 nibbles of a sector and the sum nibble. Refusals 1, 12.
+    pub fn dos33_encode_sector(
+        sector: *const u8,
+        sector_length: usize,
+        out: *mut u8,
+        out_length: usize,
+        length: *mut u64,
+    ) -> u8;
+
+    /// The 256 bytes of a sector of a stream, by the key of its address field. Refusals 8, 9, 10, 12.
+    pub fn dos33_sector(
+        stream: *const u8,
+        stream_length: usize,
+        volume: u8,
+        track: u8,
+        sector: u8,
+        out: *mut u8,
+        out_length: usize,
+        length: *mut u64,
+    ) -> u8;
+
+    /// The flat disk of a stream, 143,360 bytes. Refusals 8, 11, 9, 10, 12.
+    pub fn dos33_denibblize(
+        stream: *const u8,
+        stream_length: usize,
+        out: *mut u8,
+        out_length: usize,
+        length: *mut u64,
+    ) -> u8;
+
+    /// The nibble stream of a flat disk, 232,960 bytes. Refusals 1, 12.
+    pub fn dos33_nibblize(
+        disk: *const u8,
+        disk_length: usize,
+        out: *mut u8,
+        out_length: usize,
+        length: *mut u64,
+    ) -> u8;
+
+    /// The 35 bytes of a catalog entry. Refusals 14, 12.
+    pub fn dos33_entry_record(
+        track: u8,
+        sector: u8,
+        kind: u8,
+        locked: u8,
+        name: *const u8,
+        name_length: usize,
+        count: u16,
+        out: *mut u8,
+        out_length: usize,
+        length: *mut u64,
+    ) -> u8;
+
+    /// The 256 bytes of a catalog page, from its bytes 0-10 and entries of 37 bytes. Refusals 16, 14, 12.
+    pub fn dos33_catalog_page(
+        header: *const u8,
+        header_length: usize,
+        entries: *const u8,
+        entries_length: usize,
+        out: *mut u8,
+        out_length: usize,
+        length: *mut u64,
+    ) -> u8;
+
+    /// Address, size and data of a Binary file. Refusals 15, 12.
+    pub fn dos33_binary_file(
+        kind: u8,
+        address: u16,
+        size: u16,
+        data: *const u8,
+        data_length: usize,
+        out: *mut u8,
+        out_length: usize,
+        length: *mut u64,
+    ) -> u8;
+
+    /// 96h or B5h, whichever first follows D5 AA (h), or 0 for none. The result is no refusal.
+    pub fn dos33_recognize_prologue(stream: *const u8, stream_length: usize) -> u8;
+
+    /// 1 number: 1 for a DOS 3.3 disk, else 0. Refusals 17, 12.
+    pub fn dos33_format_from_data(
+        data: *const u8,
+        data_length: usize,
+        fields: *mut u64,
+        fields_length: usize,
+    ) -> u8;
+}

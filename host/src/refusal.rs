@@ -1,0 +1,150 @@
+use std::error::Error;
+use std::fmt;
+
+/// Why a call refuses. Words and numbers are those of document 01, "Numbers on the slip".
+///
+/// ```
+/// use dos33::{Disk, Refusal};
+///
+/// let why = Disk::flat(&[0; 100]).catalog().unwrap_err();
+/// assert_eq!(why, Refusal::OffSize);
+/// assert_eq!(why.number(), 1);
+/// assert_eq!(why.to_string(), "off size (1)");
+/// ```
+#[derive(Clone, Copy, Debug, PartialEq, Eq, Hash, PartialOrd, Ord)]
+#[non_exhaustive]
+pub enum Refusal {
+    /// 1: a flat disk that is not 143,360 bytes, or a sector to encode that is not 256.
+    OffSize,
+    /// 2: the VTOC's tracks are not 35 or 40, or its sectors not 13 or 16.
+    NoTable,
+    /// 3: a followed page, list or pair, or a location asked for, is not on the disk.
+    OffDisc,
+    /// 4: a link leads to a sector already read in its own chain.
+    Ring,
+    /// 5: a link of a track/sector list has a track and sector 0.
+    CutLink,
+    /// 6: a live name holds 80h.
+    BadLetter,
+    /// 7: the archive would have over 4,096 blocks.
+    Overlong,
+    /// 8: the sum of an address field is wrong.
+    AddressSum,
+    /// 9: the sum of a data field that counts is wrong.
+    DataSum,
+    /// 10: a sector is not in the stream.
+    Absent,
+    /// 11: a stream has a track over 34, a sector over 15 or a second volume.
+    Stranger,
+    /// 12: lent space is under the need. The calls of this crate lend enough; see [`crate::raw`].
+    TrayShort,
+    /// 13: bytes that are not the disk's archive, or no archive at all.
+    NotItsReturn,
+    /// 14: a name to write is empty, over 30 bytes, or has a byte of 80h or more.
+    UnwritableName,
+    /// 15: a file to write that is not Binary.
+    NotBinary,
+    /// 16: over 7 entries for a page.
+    PageFull,
+    /// 17: too few bytes to recognise a disk.
+    CutShort,
+    /// 18: no entry has the name asked for.
+    NotOnRoll,
+    /// A number that document 01 does not have. No function gives one.
+    Unnamed(u8),
+}
+
+impl Refusal {
+    /// All eighteen, in the order of their numbers.
+    pub const ALL: [Refusal; 18] = [
+        Refusal::OffSize,
+        Refusal::NoTable,
+        Refusal::OffDisc,
+        Refusal::Ring,
+        Refusal::CutLink,
+        Refusal::BadLetter,
+        Refusal::Overlong,
+        Refusal::AddressSum,
+        Refusal::DataSum,
+        Refusal::Absent,
+        Refusal::Stranger,
+        Refusal::TrayShort,
+        Refusal::NotItsReturn,
+        Refusal::UnwritableName,
+        Refusal::NotBinary,
+        Refusal::PageFull,
+        Refusal::CutShort,
+        Refusal::NotOnRoll,
+    ];
+
+    /// The refusal with this number; none for 0, which means accepted.
+    pub fn from_number(number: u8) -> Option<Refusal> {
+        match number {
+            0 => None,
+            n => Some(
+                Refusal::ALL
+                    .get(usize::from(n) - 1)
+                    .copied()
+                    .unwrap_or(Refusal::Unnamed(n)),
+            ),
+        }
+    }
+
+    /// The paper's number.
+    pub fn number(self) -> u8 {
+        match self {
+            Refusal::OffSize => 1,
+            Refusal::NoTable => 2,
+            Refusal::OffDisc => 3,
+            Refusal::Ring => 4,
+            Refusal::CutLink => 5,
+            Refusal::BadLetter => 6,
+            Refusal::Overlong => 7,
+            Refusal::AddressSum => 8,
+            Refusal::DataSum => 9,
+            Refusal::Absent => 10,
+            Refusal::Stranger => 11,
+            Refusal::TrayShort => 12,
+            Refusal::NotItsReturn => 13,
+            Refusal::UnwritableName => 14,
+            Refusal::NotBinary => 15,
+            Refusal::PageFull => 16,
+            Refusal::CutShort => 17,
+            Refusal::NotOnRoll => 18,
+            Refusal::Unnamed(n) => n,
+        }
+    }
+
+    /// The paper's word.
+    pub fn word(self) -> &'static str {
+        match self {
+            Refusal::OffSize => "off size",
+            Refusal::NoTable => "no table",
+            Refusal::OffDisc => "off disc",
+            Refusal::Ring => "ring",
+            Refusal::CutLink => "cut link",
+            Refusal::BadLetter => "bad letter",
+            Refusal::Overlong => "overlong",
+            Refusal::AddressSum => "address sum",
+            Refusal::DataSum => "data sum",
+            Refusal::Absent => "absent",
+            Refusal::Stranger => "stranger",
+            Refusal::TrayShort => "tray short",
+            Refusal::NotItsReturn => "not its return",
+            Refusal::UnwritableName => "unwritable name",
+            Refusal::NotBinary => "not binary",
+            Refusal::PageFull => "page full",
+            Refusal::CutShort => "cut short",
+            Refusal::NotOnRoll => "not on roll",
+            Refusal::Unnamed(_) => "no such number",
+        }
+    }
+}
+
+impl fmt::Display for Refusal {
+    fn fmt(&self, f: &mut fmt::Formatter<'_>) -> fmt::Result {
+        write!(f, "{} ({})", self.word(), self.number())
+    }
+}
+
+impl Error for Refusal {}

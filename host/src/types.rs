@@ -1,0 +1,225 @@
+use std::fmt;
+
+/// A track number. On a disk: 0 to 34.
+#[derive(Clone, Copy, Debug, PartialEq, Eq, Hash, PartialOrd, Ord)]
+pub struct Track(pub u8);
+
+/// A DOS sector number. On a disk: 0 to 15.
+#[derive(Clone, Copy, Debug, PartialEq, Eq, Hash, PartialOrd, Ord)]
+pub struct Sector(pub u8);
+
+/// A track and a sector.
+#[derive(Clone, Copy, Debug, PartialEq, Eq, Hash, PartialOrd, Ord)]
+pub struct Location {
+    /// The track.
+    pub track: Track,
+    /// The sector.
+    pub sector: Sector,
+}
+
+impl Location {
+    /// The location of that track and sector.
+    pub const fn new(track: Track, sector: Sector) -> Location {
+        Location { track, sector }
+    }
+}
+
+// The locations in a run of two bytes each.
+pub(crate) fn locations(bytes: &[u8]) -> Vec<Location> {
+    bytes
+        .chunks_exact(2)
+        .map(|p| Location::new(Track(p[0]), Sector(p[1])))
+        .collect()
+}
+
+/// The type of a file: eight codes, and [`Unknown`](FileType::Unknown) for every other.
+#[derive(Clone, Copy, Debug, PartialEq, Eq, Hash, PartialOrd, Ord)]
+pub enum FileType {
+    /// 0
+    Text,
+    /// 1
+    IntegerBasic,
+    /// 2
+    ApplesoftBasic,
+    /// 4: the only type whose files have bytes here.
+    Binary,
+    /// 8
+    S,
+    /// 10
+    Relocatable,
+    /// 20
+    A,
+    /// 40
+    B,
+    /// 41, and every code that is none of these.
+    Unknown,
+}
+
+impl FileType {
+    /// The type with this code (without the lock bit).
+    pub fn from_code(code: u8) -> FileType {
+        match code {
+            0 => FileType::Text,
+            1 => FileType::IntegerBasic,
+            2 => FileType::ApplesoftBasic,
+            4 => FileType::Binary,
+            8 => FileType::S,
+            10 => FileType::Relocatable,
+            20 => FileType::A,
+            40 => FileType::B,
+            _ => FileType::Unknown,
+        }
+    }
+
+    /// Its code.
+    pub fn code(self) -> u8 {
+        match self {
+            FileType::Text => 0,
+            FileType::IntegerBasic => 1,
+            FileType::ApplesoftBasic => 2,
+            FileType::Binary => 4,
+            FileType::S => 8,
+            FileType::Relocatable => 10,
+            FileType::A => 20,
+            FileType::B => 40,
+            FileType::Unknown => 41,
+        }
+    }
+}
+
+/// A name as the catalog shows it: at most 30 bytes below 80h, no space at the end. It may be empty,
+/// and it may hold control characters: [`Display`](fmt::Display) escapes those.
+#[derive(Clone, Copy, PartialEq, Eq, Hash, PartialOrd, Ord)]
+pub struct Name {
+    bytes: [u8; 30],
+    length: u8,
+}
+
+impl Name {
+    // From 30 bytes and a length, as the catalog call writes them.
+    pub(crate) fn shown(field: &[u8], length: u8) -> Name {
+        let mut bytes = [0u8; 30];
+        let n = usize::from(length).min(30).min(field.len());
+        bytes[..n].copy_from_slice(&field[..n]);
+        Name {
+            bytes,
+            length: n as u8,
+        }
+    }
+
+    /// Its bytes.
+    pub fn as_bytes(&self) -> &[u8] {
+        &self.bytes[..usize::from(self.length)]
+    }
+
+    /// Its text.
+    pub fn as_str(&self) -> &str {
+        text(self.as_bytes())
+    }
+}
+
+// Shown names are ASCII, so nothing is lost.
+pub(crate) fn text(bytes: &[u8]) -> &str {
+    std::str::from_utf8(bytes).unwrap_or("")
+}
+
+impl AsRef<[u8]> for Name {
+    fn as_ref(&self) -> &[u8] {
+        self.as_bytes()
+    }
+}
+
+impl PartialEq<str> for Name {
+    fn eq(&self, other: &str) -> bool {
+        self.as_bytes() == other.as_bytes()
+    }
+}
+
+impl PartialEq<&str> for Name {
+    fn eq(&self, other: &&str) -> bool {
+        self.as_bytes() == other.as_bytes()
+    }
+}
+
+impl fmt::Debug for Name {
+    fn fmt(&self, f: &mut fmt::Formatter<'_>) -> fmt::Result {
+        fmt::Debug::fmt(self.as_str(), f)
+    }
+}
+
+impl fmt::Display for Name {
+    fn fmt(&self, f: &mut fmt::Formatter<'_>) -> fmt::Result {
+        let mut shown = String::new();
+        for c in self.as_str().chars() {
+            if c.is_control() {
+                shown.extend(c.escape_default());
+            } else {
+                shown.push(c);
+            }
+        }
+        f.pad(&shown)
+    }
+}
+
+/// A live entry of the catalog.
+#[derive(Clone, Copy, Debug, PartialEq, Eq, Hash)]
+pub struct CatalogEntry {
+    /// Where its first track/sector list stands.
+    pub list: Location,
+    /// Its type.
+    pub kind: FileType,
+    /// Whether it is locked.
+    pub locked: bool,
+    /// Its name.
+    pub name: Name,
+    /// Its sector count, as the entry states it.
+    pub sectors: u16,
+}
+
+/// The volume table of contents.
+#[derive(Clone, Copy, Debug, PartialEq, Eq, Hash)]
+pub struct Vtoc {
+    /// First catalog page, as stated. The catalog is read from track 17, whatever the track here.
+    pub catalog: Location,
+    /// DOS release.
+    pub release: u8,
+    /// Volume byte.
+    pub volume: u8,
+    /// Stated maximum of pairs in a list.
+    pub pair_maximum: u8,
+    /// Last track on which sectors were allocated.
+    pub last_track: Track,
+    /// Direction of allocation.
+    pub direction: i8,
+    /// Tracks: 35 or 40.
+    pub tracks: u8,
+    /// Sectors per track: 13 or 16.
+    pub sectors: u8,
+    /// Stated bytes per sector.
+    pub sector_size: u16,
+    /// Free sectors of 560.
+    pub free: u16,
+    /// Used sectors: 560 less free.
+    pub used: u16,
+    /// Used in percent, a half going up.
+    pub percent_used: u8,
+}
+
+/// A disk in seven numbers.
+#[derive(Clone, Copy, Debug, PartialEq, Eq, Hash)]
+pub struct Survey {
+    /// Volume byte.
+    pub volume: u8,
+    /// Live entries of the catalog.
+    pub entries: u64,
+    /// Free sectors of 560.
+    pub free: u16,
+    /// Used sectors.
+    pub used: u16,
+    /// Used in percent, a half going up.
+    pub percent_used: u8,
+    /// Blocks of the disk's archive. Over 4,096 the archive itself is refused.
+    pub archive_blocks: u64,
+    /// Sectors followed as links: catalog pages and all lists.
+    pub links: u64,
+}

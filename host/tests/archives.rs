@@ -1,0 +1,250 @@
+// Archives written, checked, opened, stepped through and damaged.
+mod common;
+use common::{binary, disk};
+use dos33::*;
+
+// Opening gives what the disk has.
+fn agrees(disk: &Disk<'_>, bytes: &[u8]) {
+    disk.check(bytes).unwrap();
+    let archive = Archive::open(bytes).unwrap();
+    assert_eq!(archive.volume(), disk.vtoc().unwrap().volume);
+    assert_eq!(archive.blocks(), bytes.len() / 256);
+    assert_eq!(
+        archive.blocks() as u64,
+        disk.survey().unwrap().archive_blocks
+    );
+    let catalog = disk.catalog().unwrap();
+    let mut steps = archive.entries();
+    for (k, c) in catalog.iter().enumerate() {
+        let e = steps.next().unwrap();
+        assert_eq!(e.name(), c.name.as_str());
+        assert_eq!(
+            (e.kind(), e.locked(), e.sectors()),
+            (c.kind, c.locked, c.sectors)
+        );
+        let data = disk.file(k).unwrap();
+        assert_eq!((e.len(), e.is_empty()), (data.len(), data.is_empty()));
+        assert_eq!(e.to_vec(), data);
+        let parts: Vec<&[u8]> = e.data().collect();
+        assert_eq!(parts.len(), data.len().div_ceil(254));
+        assert!(parts.iter().rev().skip(1).all(|p| p.len() == 254));
+        // Lent from the archive, not copied.
+        assert!(parts
+            .iter()
+            .all(|p| bytes.as_ptr_range().contains(&p.as_ptr())));
+    }
+    assert!(steps.next().is_none());
+    assert!(steps.next().is_none());
+}
+
+#[test]
+fn written_checked_opened_and_stepped_through() {
+    let d = disk();
+    let flat = Disk::flat(&d);
+    let bytes = flat.archive().unwrap();
+    assert_eq!(bytes.len(), 8 * 256);
+    assert_eq!(bytes[..5], [254, 1, 0, 8, 0]);
+    agrees(&flat, &bytes);
+    let archive = Archive::open(&bytes).unwrap();
+    let names: Vec<&str> = archive.into_iter().map(|e| e.name()).collect();
+    assert_eq!(names, ["LINE 7", "NOTES", "LINE 7"]);
+    assert_eq!(archive.entries().next().unwrap().to_vec(), binary());
+    assert_eq!(archive.bytes(), bytes);
+    // All pairings of flat and nibbles.
+    let nibbles = Disk::nibbles(&flat.nibblize().unwrap()).unwrap();
+    assert_eq!(nibbles.archive().unwrap(), bytes);
+    agrees(&nibbles, &bytes);
+}
+
+// What is lent outlives the archive and the iterators.
+#[test]
+fn names_and_data_are_lent_from_the_bytes() {
+    let d = disk();
+    let bytes = Disk::flat(&d).archive().unwrap();
+    let (name, part) = {
+        let archive = Archive::open(&bytes).unwrap();
+        let e = archive.entries().last().unwrap();
+        (e.name(), e.data().next().unwrap())
+    };
+    assert_eq!((name, part), ("LINE 7", &[11, 22, 33][..]));
+}
+
+// Any other byte is another disk's archive, or none.
+#[test]
+fn damaged() {
+    let d = disk();
+    let flat = Disk::flat(&d);
+    let good = flat.archive().unwrap();
+    let mut bytes = good.clone();
+    let mut opened = 0;
+    for i in 0..good.len() {
+        bytes[i] ^= 0x01;
+        assert_eq!(flat.check(&bytes), Err(Refusal::NotItsReturn), "byte {i}");
+        match Archive::open(&bytes) {
+            Ok(a) => {
+                opened += 1;
+                assert_eq!(a.entries().count(), 3, "byte {i}");
+            }
+            Err(r) => assert_eq!(r, Refusal::NotItsReturn),
+        }
+        bytes[i] = good[i];
+    }
+    // Those that open are other contents: 1 volume, 3 locks, 17 letters, 3 * 2 bytes of sector counts, 603 bytes of data,
+    // 1 type (0 as 1; 4 as 5 is none of the nine), 2 name lengths (6 as 7: a zero is a letter), 1 data length (600 as 601).
+    assert_eq!(opened, 1 + 3 + 17 + 6 + 603 + 1 + 2 + 1);
+    // Each cut.
+    for n in (0..good.len()).step_by(64) {
+        assert_eq!(
+            Archive::open(&good[..n]).unwrap_err(),
+            Refusal::NotItsReturn
+        );
+        assert_eq!(flat.check(&good[..n]), Err(Refusal::NotItsReturn));
+    }
+}
+
+// The most blocks there can be: 4,095 entries, or one file. No disk holds them.
+#[test]
+fn the_largest_archives() {
+    let mut bytes = vec![0u8; 256 * 4096];
+    bytes[1] = 1;
+    bytes[4] = 16;
+    let mut one = bytes.clone();
+    for b in 1..4096usize {
+        let next = if b < 4095 { b + 1 } else { 0 };
+        bytes[256 * b] = next as u8;
+        bytes[256 * b + 1] = (next / 256) as u8;
+    }
+    // Opening goes as deep as there are blocks; so much stack is enough.
+    let copy = bytes.clone();
+    let small = std::thread::Builder::new().stack_size(512 * 1024);
+    let opened = small.spawn(move || Archive::open(&copy).map(|a| a.entries().take(2).count()));
+    assert_eq!(opened.unwrap().join().unwrap(), Ok(2));
+    let archive = Archive::open(&bytes).unwrap();
+    assert_eq!(archive.blocks(), 4096);
+    assert_eq!(
+        archive
+            .entries()
+            .take(10)
+            .filter(|e| e.is_empty() && e.name().is_empty())
+            .count(),
+        10
+    );
+
+    let size = 254 * 4094;
+    one[256 + 2] = 2;
+    one[256 + 4] = 4;
+    one[256 + 39..256 + 42].copy_from_slice(&[size as u8, (size >> 8) as u8, (size >> 16) as u8]);
+    for b in 2..4096usize {
+        let next = if b < 4095 { b + 1 } else { 0 };
+        one[256 * b] = next as u8;
+        one[256 * b + 1] = (next / 256) as u8;
+        one[256 * b + 2..256 * b + 256].fill(b as u8);
+    }
+    let archive = Archive::open(&one).unwrap();
+    let e = archive.entries().next().unwrap();
+    assert_eq!(
+        (e.len(), e.data().count(), archive.entries().count()),
+        (1_039_876, 4094, 1)
+    );
+    assert!(e
+        .data()
+        .zip(2usize..)
+        .all(|(part, b)| part == [b as u8; 254]));
+}
+
+// Disks with a few bytes changed by chance: whatever is accepted agrees, whatever is refused is refused alike.
+#[test]
+fn by_chance() {
+    let mut dice = common::Dice(0xD0533);
+    let good = disk();
+    // Bytes that links, lists, names and types stand in.
+    let places: Vec<usize> = [
+        (17, 0),
+        (17, 15),
+        (17, 14),
+        (18, 15),
+        (18, 14),
+        (19, 15),
+        (20, 15),
+        (18, 1),
+    ]
+    .into_iter()
+    .map(|(t, s)| common::at(t, s))
+    .collect();
+    let (mut accepted, mut refused) = (0, [0; 19]);
+    for _ in 0..1000 {
+        let mut d = good.clone();
+        for _ in 0..1 + dice.roll(4) {
+            let i = places[dice.roll(places.len())];
+            match dice.roll(4) {
+                0 => d[i + dice.roll(64)] = dice.roll(256) as u8,
+                1 => d[i + dice.roll(64)] = 17 + dice.roll(4) as u8,
+                2 => d[i + dice.roll(64)] = dice.roll(17) as u8,
+                // A link.
+                _ => {
+                    d[i + 1] = 17 + dice.roll(4) as u8;
+                    d[i + 2] = [15, 14, 1, 0][dice.roll(4)];
+                }
+            }
+        }
+        let disk = Disk::flat(&d);
+        match disk.archive() {
+            Ok(bytes) => {
+                accepted += 1;
+                agrees(&disk, &bytes);
+            }
+            Err(r) => {
+                refused[usize::from(r.number())] += 1;
+                assert_eq!(disk.survey(), Err(r));
+                assert_eq!(disk.file(0), Err(r));
+                assert_eq!(disk.lists(0), Err(r));
+                assert_eq!(disk.fetch("LINE 7"), Err(r));
+                assert_eq!(disk.check(&[]), Err(r));
+            }
+        }
+        let unrolled = Disk::nibbles(&disk.nibblize().unwrap()).unwrap();
+        assert_eq!(unrolled.bytes(), d);
+    }
+    assert!(accepted > 100, "{accepted}");
+    assert!((2..6).all(|r| refused[r] > 0), "{refused:?}");
+    assert_eq!(accepted + refused[2..7].iter().sum::<i32>(), 1000);
+}
+
+// Bytes by chance are answered by every call.
+#[test]
+fn any_bytes_have_an_answer() {
+    let mut dice = common::Dice(0xABCDEF);
+    for k in 0..60usize {
+        let size = if k % 2 == 0 {
+            DISK_SIZE
+        } else {
+            dice.roll(4096)
+        };
+        let bytes: Vec<u8> = (0..size).map(|_| dice.roll(256) as u8).collect();
+        let disk = Disk::flat(&bytes);
+        let _ = (
+            disk.vtoc(),
+            disk.catalog(),
+            disk.survey(),
+            disk.archive(),
+            disk.nibblize(),
+        );
+        let _ = (
+            disk.file(k),
+            disk.lists(k),
+            disk.fetch(&bytes),
+            disk.check(&bytes),
+        );
+        let (t, s) = (Track(dice.roll(256) as u8), Sector(dice.roll(256) as u8));
+        let _ = (disk.sector(t, s), disk.pairs(t, s));
+        let _ = (
+            Disk::nibbles(&bytes),
+            recognize_prologue(&bytes),
+            format_from_data(&bytes),
+        );
+        let _ = (
+            encode_sector(&bytes),
+            Archive::open(&bytes).map(|a| a.entries().count()),
+        );
+    }
+}

@@ -1,0 +1,266 @@
+// The raw functions: what is lent stays as it is under a refusal, and past what is written.
+mod common;
+use common::disk;
+use dos33::raw::*;
+
+const OLD: u8 = 0xA7;
+const OLD_LENGTH: u64 = 0xDEAD_BEEF;
+
+type Call<'a> = &'a dyn Fn(*mut u8, usize, *mut u64) -> u8;
+type Numbers<'a> = &'a dyn Fn(*mut u64, usize) -> u8;
+
+// A refusal, with room enough: nothing changes.
+fn refuses(due: u8, call: Call) {
+    for room in [0, 1, 300_000] {
+        let mut out = vec![OLD; room];
+        let mut length = OLD_LENGTH;
+        assert_eq!(call(out.as_mut_ptr(), room, &mut length), due);
+        assert_eq!(length, OLD_LENGTH);
+        assert!(out.iter().all(|&b| b == OLD));
+    }
+}
+
+// Accepted with `need` bytes of room and with more; 12 with less.
+fn hands(need: usize, call: Call) -> Vec<u8> {
+    let mut exact = vec![OLD; need];
+    let mut length = OLD_LENGTH;
+    assert_eq!(call(exact.as_mut_ptr(), need, &mut length), 0);
+    assert_eq!(length, need as u64);
+
+    let mut more = vec![OLD; need + 1000];
+    let mut length = OLD_LENGTH;
+    assert_eq!(call(more.as_mut_ptr(), more.len(), &mut length), 0);
+    assert_eq!(length, need as u64);
+    assert_eq!(more[..need], exact);
+    assert!(more[need..].iter().all(|&b| b == OLD));
+
+    if need > 0 {
+        for room in [0, need / 2, need - 1] {
+            let mut out = vec![OLD; room];
+            let mut length = OLD_LENGTH;
+            assert_eq!(call(out.as_mut_ptr(), room, &mut length), 12);
+            assert_eq!(length, OLD_LENGTH);
+            assert!(out.iter().all(|&b| b == OLD));
+        }
+    }
+    exact
+}
+
+fn refuses_numbers(due: u8, call: Numbers) {
+    for room in [0, 1, 20] {
+        let mut fields = vec![OLD_LENGTH; room];
+        assert_eq!(call(fields.as_mut_ptr(), room), due);
+        assert!(fields.iter().all(|&n| n == OLD_LENGTH));
+    }
+}
+
+fn hands_numbers(need: usize, call: Numbers) -> Vec<u64> {
+    let mut fields = vec![OLD_LENGTH; need + 3];
+    assert_eq!(call(fields.as_mut_ptr(), need + 3), 0);
+    assert_eq!(fields[need..], [OLD_LENGTH; 3]);
+    for room in 0..need {
+        let mut short = vec![OLD_LENGTH; room];
+        assert_eq!(call(short.as_mut_ptr(), room), 12);
+        assert!(short.iter().all(|&n| n == OLD_LENGTH));
+    }
+    fields.truncate(need);
+    fields
+}
+
+#[test]
+fn calls_on_a_flat_disk() {
+    let d = disk();
+    let mut ring = disk();
+    ring[common::at(18, 14) + 1] = 18;
+    ring[common::at(18, 14) + 2] = 15;
+    let mut letter = disk();
+    letter[common::at(17, 14) + 11 + 35 * 6 + 3] = 0x80;
+    let (p, n) = (d.as_ptr(), d.len());
+    let (rp, lp) = (ring.as_ptr(), letter.as_ptr());
+    unsafe {
+        let window = hands(256, &|o, m, l| dos33_window(p, n, p, 0, 1, 18, 1, o, m, l));
+        assert_eq!(window, d[common::at(18, 1)..common::at(18, 2)]);
+        assert_eq!(
+            hands(256, &|o, m, l| dos33_window(p, 0, p, n, 0, 18, 1, o, m, l)),
+            window
+        );
+        // Any yes is a yes.
+        assert_eq!(
+            hands(256, &|o, m, l| dos33_window(
+                p, n, p, 0, 200, 18, 1, o, m, l
+            )),
+            window
+        );
+        refuses(1, &|o, m, l| dos33_window(p, n, p, 0, 0, 99, 1, o, m, l));
+        refuses(3, &|o, m, l| dos33_window(p, n, p, 0, 1, 35, 1, o, m, l));
+
+        assert_eq!(
+            hands(3 * 37, &|o, m, l| dos33_catalog(p, n, o, m, l))[5..11],
+            *b"LINE 7"
+        );
+        refuses(1, &|o, m, l| dos33_catalog(p, n - 1, o, m, l));
+        // The bad letter is on the second page: nothing of the first is handed over.
+        refuses(6, &|o, m, l| dos33_catalog(lp, n, o, m, l));
+
+        assert_eq!(
+            hands(4, &|o, m, l| dos33_lists(p, n, 0, o, m, l)),
+            [18, 15, 18, 14]
+        );
+        assert_eq!(
+            hands(0, &|o, m, l| dos33_lists(p, n, u64::MAX, o, m, l)),
+            []
+        );
+        refuses(4, &|o, m, l| dos33_lists(rp, n, 2, o, m, l));
+
+        assert_eq!(
+            hands(4, &|o, m, l| dos33_pairs(p, n, 18, 15, o, m, l)),
+            [18, 1, 18, 2]
+        );
+        refuses(3, &|o, m, l| dos33_pairs(p, n, 255, 255, o, m, l));
+
+        assert_eq!(
+            hands(600, &|o, m, l| dos33_file(p, n, 0, o, m, l)),
+            common::binary()
+        );
+        assert_eq!(hands(0, &|o, m, l| dos33_file(p, n, 3, o, m, l)), []);
+        refuses(4, &|o, m, l| dos33_file(rp, n, 2, o, m, l));
+
+        let name = b"LINE 7";
+        let got = hands(3, &|o, m, l| dos33_fetch(p, n, name.as_ptr(), 6, o, m, l));
+        assert_eq!(got, [11, 22, 33]);
+        refuses(18, &|o, m, l| dos33_fetch(p, n, name.as_ptr(), 5, o, m, l));
+        refuses(4, &|o, m, l| dos33_fetch(rp, n, name.as_ptr(), 5, o, m, l));
+
+        let archive = hands(8 * 256, &|o, m, l| dos33_archive_write(p, n, o, m, l));
+        assert_eq!(
+            dos33_archive_check(p, n, archive.as_ptr(), archive.len()),
+            0
+        );
+        assert_eq!(
+            dos33_archive_check(p, n, archive.as_ptr(), archive.len() - 1),
+            13
+        );
+        refuses(4, &|o, m, l| dos33_archive_write(rp, n, o, m, l));
+        let large = common::large(16);
+        refuses(7, &|o, m, l| {
+            dos33_archive_write(large.as_ptr(), n, o, m, l)
+        });
+
+        let vtoc = hands_numbers(13, &|f, m| dos33_vtoc(p, n, f, m));
+        assert_eq!(
+            vtoc,
+            [17, 15, 3, 254, 122, 18, 255, 35, 16, 256, 15, 545, 97]
+        );
+        refuses_numbers(1, &|f, m| dos33_vtoc(p, 0, f, m));
+        let survey = hands_numbers(7, &|f, m| dos33_survey(p, n, f, m));
+        assert_eq!(survey, [254, 3, 15, 545, 97, 8, 6]);
+        refuses_numbers(4, &|f, m| dos33_survey(rp, n, f, m));
+
+        let (a, k) = (archive.as_ptr(), archive.len());
+        assert_eq!(
+            hands_numbers(3, &|f, m| dos33_archive_open(a, k, f, m)),
+            [254, 1, 8]
+        );
+        refuses_numbers(13, &|f, m| dos33_archive_open(a, k - 1, f, m));
+        let entry = hands_numbers(8, &|f, m| dos33_archive_entry(a, k, 1, f, m));
+        assert_eq!(entry, [1, 5, 2, 4, 1, 6, 5, 600]);
+        let entry = hands_numbers(8, &|f, m| dos33_archive_entry(a, k, 5, f, m));
+        assert_eq!(entry, [1, 6, 0, 0, 0, 5, 2, 0]);
+        let entry = hands_numbers(8, &|f, m| dos33_archive_entry(a, k, 6, f, m));
+        assert_eq!(entry, [1, 0, 7, 4, 0, 6, 0x102, 3]);
+        for block in [0, 2, 3, 4, 7, 8, 4096, u64::MAX, 1 << 56, (1 << 56) + 1] {
+            let end = hands_numbers(8, &|f, m| dos33_archive_entry(a, k, block, f, m));
+            assert_eq!(end, [0; 8], "block {block}");
+        }
+        refuses_numbers(13, &|f, m| dos33_archive_entry(a, k - 256, 1, f, m));
+    }
+}
+
+#[test]
+fn calls_on_streams() {
+    let d = disk();
+    let (p, n) = (d.as_ptr(), d.len());
+    unsafe {
+        let stream = hands(232_960, &|o, m, l| dos33_nibblize(p, n, o, m, l));
+        refuses(1, &|o, m, l| dos33_nibblize(p, n - 1, o, m, l));
+        let (s, k) = (stream.as_ptr(), stream.len());
+        assert_eq!(
+            hands(143_360, &|o, m, l| dos33_denibblize(s, k, o, m, l)),
+            d
+        );
+        assert_eq!(
+            hands(256, &|o, m, l| dos33_sector(s, k, 254, 0, 0, o, m, l)),
+            d[..256]
+        );
+        refuses(10, &|o, m, l| dos33_denibblize(s, k - 1, o, m, l));
+        refuses(10, &|o, m, l| dos33_sector(s, k, 0, 0, 0, o, m, l));
+        // The last field is bad: nothing of those before it is handed over.
+        let last = common::field(34, 15);
+        let (mut eight, mut nine, mut eleven) = (stream.clone(), stream.clone(), stream.clone());
+        eight[last + 58] ^= 1;
+        nine[last + 412] = if nine[last + 412] == 0x96 { 0x97 } else { 0x96 };
+        common::address(&mut eleven, last, 254, 34, 16);
+        for (bad, due) in [(&eight, 8), (&nine, 9), (&eleven, 11)] {
+            refuses(due, &|o, m, l| dos33_denibblize(bad.as_ptr(), k, o, m, l));
+        }
+        refuses(8, &|o, m, l| {
+            dos33_sector(eight.as_ptr(), k, 254, 0, 0, o, m, l)
+        });
+        refuses(9, &|o, m, l| {
+            dos33_sector(nine.as_ptr(), k, 254, 0, 0, o, m, l)
+        });
+        let nibbles = hands(343, &|o, m, l| dos33_encode_sector(p, 256, o, m, l));
+        assert_eq!(nibbles, stream[70..413]);
+        refuses(1, &|o, m, l| dos33_encode_sector(p, 257, o, m, l));
+        assert_eq!(dos33_recognize_prologue(s, k), 0x96);
+        assert_eq!(dos33_recognize_prologue(s, 50), 0);
+        assert_eq!(
+            hands_numbers(1, &|f, m| dos33_format_from_data(p, n, f, m)),
+            [0]
+        );
+        refuses_numbers(17, &|f, m| dos33_format_from_data(p, 8, f, m));
+    }
+}
+
+#[test]
+fn record_writers() {
+    let name = [b'A'; 31];
+    let a = name.as_ptr();
+    let mut listed = [0u8; 37 * 8];
+    for e in listed.chunks_exact_mut(37) {
+        e[..6].copy_from_slice(&[18, 15, 99, 7, 1, b'A']);
+        // Past the name's length: not read.
+        e[6..35].fill(0xFF);
+        e[35] = 2;
+    }
+    let e = listed.as_ptr();
+    unsafe {
+        let record = hands(35, &|o, m, l| {
+            dos33_entry_record(18, 15, 99, 7, a, 1, 2, o, m, l)
+        });
+        assert_eq!(record[..5], [18, 15, 41 + 128, 0xC1, 0xA0]);
+        refuses(14, &|o, m, l| {
+            dos33_entry_record(18, 15, 4, 0, a, 0, 2, o, m, l)
+        });
+        refuses(14, &|o, m, l| {
+            dos33_entry_record(18, 15, 4, 0, a, 31, 2, o, m, l)
+        });
+        // Entries that fit whole: seven and a part are seven.
+        let page = hands(256, &|o, m, l| {
+            dos33_catalog_page(a, 2, e, 37 * 8 - 1, o, m, l)
+        });
+        assert_eq!(page[..11], [b'A', b'A', 0, 0, 0, 0, 0, 0, 0, 0, 0]);
+        assert!(page[11..].chunks_exact(35).all(|r| r == record));
+        refuses(16, &|o, m, l| dos33_catalog_page(a, 2, e, 37 * 8, o, m, l));
+        let mut bad = listed;
+        bad[37 * 6 + 4] = 31;
+        refuses(14, &|o, m, l| {
+            dos33_catalog_page(a, 2, bad.as_ptr(), 37 * 7, o, m, l)
+        });
+        let file = hands(9, &|o, m, l| {
+            dos33_binary_file(4, 0x1234, 0x5678, a, 5, o, m, l)
+        });
+        assert_eq!(file, b"\x34\x12\x78\x56AAAAA");
+        refuses(15, &|o, m, l| dos33_binary_file(5, 0, 0, a, 5, o, m, l));
+    }
+}

@@ -1,0 +1,105 @@
+/* A disk with one Binary file, through every function of dos33.h. Ends with 0 and the word "good". */
+#include "dos33.h"
+
+#include <stdio.h>
+#include <string.h>
+
+#define EXPECT(x) do { if (!(x)) { printf("line %d: %s\n", __LINE__, #x); return 1; } } while (0)
+
+static uint8_t disk[DOS33_DISK_SIZE], image[DOS33_DISK_SIZE];
+static uint8_t stream[DOS33_STREAM_SIZE], archive[DOS33_ARCHIVE_MOST];
+static uint8_t out[DOS33_CATALOG_MOST];
+
+static uint8_t *at(size_t track, size_t sector) { return disk + 4096 * track + 256 * sector; }
+
+int main(void) {
+    static const uint8_t name[] = {'L', 'I', 'N', 'E'};
+    static const uint8_t header[] = {0, 0, 0};
+    uint8_t data[300], listed[37] = {18, 2, DOS33_BINARY, 1, 4, 'L', 'I', 'N', 'E'};
+    uint8_t small[4] = {1, 2, 3, 4};
+    uint64_t f[DOS33_VTOC_FIELDS], n = 0, blocks, k, block, left, size;
+
+    listed[35] = 3;
+    for (k = 0; k < sizeof data; k++) data[k] = (uint8_t)(7 * k);
+
+    /* Record writers make the disk. */
+    at(17, 0)[2] = 15;
+    at(17, 0)[6] = 254;
+    at(17, 0)[52] = 35;
+    at(17, 0)[53] = 16;
+    EXPECT(dos33_catalog_page(header, sizeof header, listed, sizeof listed, at(17, 15), 256, &n) == 0);
+    EXPECT(n == 256);
+    EXPECT(dos33_entry_record(18, 2, DOS33_BINARY, 1, name, 4, 3, out, sizeof out, &n) == 0);
+    EXPECT(n == DOS33_ENTRY_SIZE && memcmp(out, at(17, 15) + 11, 35) == 0);
+    EXPECT(dos33_entry_record(18, 2, 4, 1, name, 0, 3, out, sizeof out, &n) == DOS33_UNWRITABLE_NAME);
+    at(18, 2)[12] = 18;
+    at(18, 2)[13] = 3;
+    at(18, 2)[14] = 18;
+    at(18, 2)[15] = 4;
+    EXPECT(dos33_binary_file(DOS33_BINARY, 0x2000, 300, data, 300, at(18, 3), 512, &n) == 0);
+    EXPECT(n == 304 && at(18, 3)[1] == 0x20);
+    EXPECT(dos33_binary_file(DOS33_TEXT, 0, 0, data, 300, out, sizeof out, &n) == DOS33_NOT_BINARY);
+
+    /* The flat disk. */
+    EXPECT(dos33_vtoc(disk, sizeof disk, f, DOS33_VTOC_FIELDS) == 0);
+    EXPECT(f[3] == 254 && f[7] == 35 && f[8] == 16 && f[10] == 0 && f[11] == 560 && f[12] == 100);
+    EXPECT(dos33_catalog(disk, sizeof disk, out, sizeof out, &n) == 0);
+    EXPECT(n == 37 && memcmp(out, listed, 37) == 0);
+    EXPECT(dos33_lists(disk, sizeof disk, 0, out, sizeof out, &n) == 0);
+    EXPECT(n == 2 && out[0] == 18 && out[1] == 2);
+    EXPECT(dos33_pairs(disk, sizeof disk, 18, 2, out, sizeof out, &n) == 0);
+    EXPECT(n == 4 && out[2] == 18 && out[3] == 4);
+    EXPECT(dos33_pairs(disk, sizeof disk, 35, 0, out, sizeof out, &n) == DOS33_OFF_DISC);
+    EXPECT(dos33_file(disk, sizeof disk, 0, out, sizeof out, &n) == 0);
+    EXPECT(n == 300 && memcmp(out, data, 300) == 0);
+    EXPECT(dos33_fetch(disk, sizeof disk, name, 4, out, sizeof out, &n) == 0 && n == 300);
+    EXPECT(dos33_fetch(disk, sizeof disk, name, 3, out, sizeof out, &n) == DOS33_NOT_ON_ROLL);
+    EXPECT(dos33_survey(disk, sizeof disk, f, DOS33_SURVEY_FIELDS) == 0);
+    EXPECT(f[0] == 254 && f[1] == 1 && f[5] == 4 && f[6] == 2);
+    EXPECT(dos33_window(disk, sizeof disk, image, 0, 1, 18, 2, out, sizeof out, &n) == 0);
+    EXPECT(n == 256 && memcmp(out, at(18, 2), 256) == 0);
+
+    /* Nibbles and back. */
+    EXPECT(dos33_nibblize(disk, sizeof disk, stream, sizeof stream, &n) == 0);
+    EXPECT(n == DOS33_STREAM_SIZE);
+    EXPECT(dos33_recognize_prologue(stream, sizeof stream) == 0x96);
+    EXPECT(dos33_denibblize(stream, sizeof stream, image, sizeof image, &n) == 0);
+    EXPECT(n == DOS33_DISK_SIZE && memcmp(disk, image, sizeof disk) == 0);
+    EXPECT(dos33_sector(stream, sizeof stream, 254, 18, 14, out, sizeof out, &n) == 0);
+    EXPECT(n == 256 && memcmp(out, at(18, 8), 256) == 0);
+    EXPECT(dos33_sector(stream, sizeof stream, 1, 18, 14, out, sizeof out, &n) == DOS33_ABSENT);
+    EXPECT(dos33_encode_sector(at(0, 0), 256, out, sizeof out, &n) == 0);
+    EXPECT(n == DOS33_NIBBLES_SIZE && out[0] == 0x96 && out[342] == 0x96);
+
+    /* The archive, stepped through where it stands. */
+    EXPECT(dos33_archive_write(disk, sizeof disk, archive, sizeof archive, &n) == 0 && n == 1024);
+    EXPECT(dos33_archive_check(image, sizeof image, archive, n) == 0);
+    EXPECT(dos33_archive_open(archive, n, f, DOS33_OPEN_FIELDS) == 0);
+    EXPECT(f[0] == 254 && f[1] == 1 && f[2] == 4);
+    blocks = n;
+    block = f[1];
+    EXPECT(dos33_archive_entry(archive, blocks, block, f, DOS33_STEP_FIELDS) == 0);
+    EXPECT(f[0] == 1 && f[1] == 0 && f[3] == DOS33_BINARY && f[4] == 1 && f[5] == 4 && f[6] == 3 && f[7] == 300);
+    EXPECT(memcmp(archive + 256 * block + 7, name, 4) == 0);
+    for (k = 0, block = f[2], left = f[7]; block != 0; k += size, left -= size) {
+        const uint8_t *b = archive + 256 * block;
+        size = left < 254 ? left : 254;
+        EXPECT(memcmp(b + 2, data + k, size) == 0);
+        block = b[0] + 256u * b[1];
+    }
+    EXPECT(k == 300 && left == 0);
+    EXPECT(dos33_archive_entry(archive, blocks, 2, f, DOS33_STEP_FIELDS) == 0 && f[0] == 0);
+    archive[600] ^= 1;
+    EXPECT(dos33_archive_check(disk, sizeof disk, archive, blocks) == DOS33_NOT_ITS_RETURN);
+
+    /* Nothing lent changes under a refusal. */
+    n = 99;
+    EXPECT(dos33_file(disk, sizeof disk, 0, small, sizeof small, &n) == DOS33_TRAY_SHORT);
+    EXPECT(n == 99 && small[0] == 1 && small[3] == 4);
+    f[0] = 77;
+    EXPECT(dos33_format_from_data(disk, 8, f, DOS33_FORMAT_FIELDS) == DOS33_CUT_SHORT && f[0] == 77);
+    EXPECT(dos33_format_from_data(disk, sizeof disk, f, DOS33_FORMAT_FIELDS) == 0 && f[0] == 0);
+
+    puts("good");
+    return 0;
+}
