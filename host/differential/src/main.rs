@@ -1,5 +1,7 @@
 // Compares crates/host with image-rider on generated inputs: cargo run --release -- [SEED] [COUNT]
+// Times and ratios: cargo run --release -- --bench
 // One flat disk or stream in a file: cargo run --release -- --load FILE, or --stream FILE
+mod bench;
 mod disks;
 mod fixed;
 mod load;
@@ -25,6 +27,11 @@ fn main() {
     panics::prepare();
     if arguments.first().is_some_and(|a| a == worker::ARGUMENT) {
         worker::serve(&config);
+        return;
+    }
+
+    if arguments.first().is_some_and(|a| a == "--bench") {
+        bench::run(&config);
         return;
     }
 

@@ -27,7 +27,7 @@ fn address(key: Key, sum: u8) -> Vec<u8> {
 }
 
 // What both are given at the end: parse_nib_disk returns only for a stream that ends just after 342 nibbles.
-fn tail() -> Vec<u8> {
+pub fn tail() -> Vec<u8> {
     let mut tail = address((0, 0, 0), 0);
     tail.extend([0xDE, 0xAA, 0xEB]);
     tail.extend(DATA);
