@@ -49,7 +49,8 @@ fn full_disk(random: &mut Random) -> (Vec<u8>, u64) {
     disk[vtoc + 6] = 254;
     disk[vtoc + 52] = 35;
     disk[vtoc + 53] = 16;
-    let free: Vec<usize> = (0..560).filter(|s| s / 16 != 17).collect();
+    // A pair with track 0 is none, and an entry with list track 0 is not in use.
+    let free: Vec<usize> = (16..560).filter(|s| s / 16 != 17).collect();
     let mut count = 0;
     for sectors in free.chunks_exact(7) {
         let page = start(17 * 16 + 15 - count / 7);
@@ -107,6 +108,7 @@ pub fn run(config: &Config) {
 
     unsafe {
         assert_eq!(dos33_survey(d, n, fields.as_mut_ptr(), 7), 0);
+        assert_eq!(fields[1], files);
         println!("a disk of {files} files, {} archive blocks", fields[5]);
 
         let guess = AppleDiskGuess::new(Encoding::Plain, Format::DOS33(143_360), &disk);
