@@ -21,6 +21,7 @@ use Rattle.files.specs.Copies.{cutOf}
 use Rattle.files.specs.Survey.{blocksFor}
 use Rattle.files.proofs.Copying.{cut-two}
 use Rattle.archive.specs.Archive.{dataBlock, entryBlock}
+use Rattle.archive.proofs.Back.{is-nil}
 use Rattle.writer.specs.declared.Mark.{Mark}
 use Rattle.writer.specs.Passes.{Pass, passOf, sectorAt, headOf, tailOf, sizeBy, startBy, statedIn, collected, nextData, dataAt, madeAt, headAt, fileBlocks, fileWith, stepped, withFile, Made, Sectors}
 
@@ -37,10 +38,6 @@ every-at : {P : ℕ → Type 0} {xs : List ℕ} → Every P xs → (i : ℕ) →
 every-at none i h = absurd (omega arith)
 every-at (more p ps) zero h = p
 every-at (more p ps) (suc i) h = every-at ps i (omega arith)
-
-is-empty : (x : List ℕ) → length x ≡ 0 → x ≡ []
-is-empty [] e = refl
-is-empty (y ∷ x) e = absurd (omega arith)
 
 module _ (d ns : List ℕ) where
   -- what is taken of one sector
@@ -114,7 +111,7 @@ module _ (d ns : List ℕ) where
         (λ i.
         let z : size ≡ 0 = omega arith in
         let n : length (headOf d ns from size) ≡ 0 = omega (arith, head-long from size) in
-        let x : headOf d ns from size ≡ [] = is-empty (headOf d ns from size) n in
+        let x : headOf d ns from size ≡ [] = is-nil (headOf d ns from size) n in
         rw (x, tail-none from size (omega arith), z) refl)
 
     -- a data block of them
