@@ -118,7 +118,7 @@ pub fn parse_track_sector_pair(disk: &[u8], per: u8, p: Place, i: u8) -> Place
 }
 
 // The pairs of a list: up to the first zero track, and at most 121.
-fn parse_track_sector_list(disk: &[u8], per: u8, p: Place) -> PairRun
+pub fn parse_track_sector_list(disk: &[u8], per: u8, p: Place) -> PairRun
     ensures is { λ r. ⌜ r ≡ runOf per (now (disk .entry)) p ⌝ }
     ensures few { λ r. ⌜ r .count ≤ 121 ⌝ }
 {

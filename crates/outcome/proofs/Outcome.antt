@@ -115,15 +115,15 @@ module _ {w : List ℕ} (o : Outcome (List ℕ)) (out : List ℕ) where
   handed-fits e l = rw (e, le-leb _ _ l) refl
 
 -- the three ways in which such a call ends, as code finds them: a refusal, ..
-pub hands-refused : (o : Outcome (List ℕ)) (out : List ℕ) (r : Refusal) → o ≡ refused r → (h : Handed) → h ≡ refusedWith (code r) → Hands o out out h
+pub hands-refused : {A : Type 0} (o : Outcome (List A)) (out : List A) (r : Refusal) → o ≡ refused r → (h : Handed) → h ≡ refusedWith (code r) → Hands o out out h
 hands-refused o out r e h q = record { answer = rw (q, e) refl; left = rw e refl }
 
 -- .. too little space, ..
-pub hands-short : (o : Outcome (List ℕ)) (out w : List ℕ) → o ≡ given w → length out < length w → (h : Handed) → h ≡ refusedWith 12 → Hands o out out h
+pub hands-short : {A : Type 0} (o : Outcome (List A)) (out w : List A) → o ≡ given w → length out < length w → (h : Handed) → h ≡ refusedWith 12 → Hands o out out h
 hands-short o out w e l h q = record { answer = rw (q, e, lt-leb _ _ l) refl; left = rw (e, lt-leb _ _ l) refl }
 
 -- .. and the bytes in the space
-pub hands-over : (o : Outcome (List ℕ)) (out after w : List ℕ) → o ≡ given w → length w ≤ length out → after ≡ w ++ drop (length w) out
+pub hands-over : {A : Type 0} (o : Outcome (List A)) (out after w : List A) → o ≡ given w → length w ≤ length out → after ≡ w ++ drop (length w) out
     → (h : Handed) → h ≡ acceptedWith (length w) → Hands o out after h
 hands-over o out after w e l k h q = record { answer = rw (q, e, le-leb _ _ l) refl; left = rw (e, le-leb _ _ l) k }
 
