@@ -24,7 +24,7 @@ told-refused h n e = record { result = refl; length = sym (rw (ne-eqb _ _ e) ref
 pub ruleset tellings = (told-given, told-refused, needs)
 
 -- what is handed over is exported so
-answered : (p : Outcome (List ℕ)) (h : Handed) (n m r : ℕ) → h ≡ answerOf p → Told h n m r → (r ≡ number p) × (m ≡ lengthBy p n)
+answered : {A : Type 0} (p : Outcome (List A)) (h : Handed) (n m r : ℕ) → h ≡ answerOf p → Told h n m r → (r ≡ number p) × (m ≡ lengthBy p n)
 answered (refused q) h n m r e t =
     let z : h .refusal ≡ code q = ap (λ (y : Handed). y .refusal) e in
     (t .result ∙ z, t .length ∙ rw (ne-eqb (h .refusal) 0 (λ i. omega (arith, code-pos q))) refl)
@@ -32,7 +32,7 @@ answered (given w) h n m r e t =
     let z : h .refusal ≡ 0 = ap (λ (y : Handed). y .refusal) e in
     (t .result ∙ z, t .length ∙ rw (eq-eqb (h .refusal) 0 z) (ap (λ (y : Handed). y .length) e))
 
-pub exports : (o : Outcome (List ℕ)) (b a : List ℕ) (h : Handed) (n m r : ℕ) → Hands o b a h → Told h n m r → Exports o b a n m r
+pub exports : {A : Type 0} (o : Outcome (List A)) (b a : List A) (h : Handed) (n m r : ℕ) → Hands o b a h → Told h n m r → Exports o b a n m r
 exports o b a h n m r u t =
     let g = answered (handed o b) h n m r (u .answer) t in
     record { result = g .0; left = u .left; length = g .1 }

@@ -21,13 +21,13 @@ use Rattle.records.specs.Formats.{recognized}
 abbrev pub yes : ℕ → Bool
 yes b = not (eqb b 0)
 
--- the number behind `length`: how many bytes were written; under a refusal the one that was there
-abbrev pub lengthBy : Outcome (List ℕ) → ℕ → ℕ
+-- the number behind `length`: how many bytes (or other elements) were written; under a refusal the one that was there
+abbrev pub lengthBy : {A : Type 0} → Outcome (List A) → ℕ → ℕ
 lengthBy (refused r) n = n
 lengthBy (given w) n = length w
 
 -- an export that hands over the bytes of o: the space goes from `before` to `after`, the number behind `length` from n to m, and r is the result
-pub record Exports (o : Outcome (List ℕ)) (before after : List ℕ) (n m r : ℕ) : Type 0 where
+pub record Exports {A : Type 0} (o : Outcome (List A)) (before after : List A) (n m r : ℕ) : Type 0 where
   pub result : r ≡ number (handed o before)
   pub left : after ≡ leftBy (handed o before) before
   pub length : m ≡ lengthBy (handed o before) n

@@ -8,6 +8,7 @@ ghost use Rattle.disk.specs.Window.{windowed};
 ghost use Rattle.catalog.specs.Listing.{listed};
 ghost use Rattle.files.specs.Contents.{pairBytes};
 ghost use Rattle.files.specs.Survey.{fetched};
+ghost use Rattle.pairs.specs.Run.{pairRun};
 ghost use Rattle.files.specs.Chosen.{fileOfNumber, listsOfNumber};
 ghost use Rattle.nibble.specs.Nibble.{encoded};
 ghost use Rattle.stream.specs.Stream.{image, sectorOf, nibblized};
@@ -25,6 +26,7 @@ use disk::Track;
 use lists::copy_at;
 use outcome::Handed;
 use outcome::TRAY_SHORT;
+use pairs::TrackSectorPair;
 
 // Tells an answer: its number is the result, its length goes behind `length`.
 fn tell(h: Handed, length: &mut u64) -> u8
@@ -66,6 +68,21 @@ pub extern "C" fn dos33_pairs(
     ensures { λ r. ⌜ Exports (pairBytes 16 (now (disk .entry)) (place track sector)) (now (out .entry)) (now (out .exit)) (now (length .entry)) (now (length .exit)) r ⌝ }
 {
     let answer = files::track_sector_pairs(disk, Track(track), Sector(sector), out);
+    tell(answer, length)
+}
+
+// The same in a run of structs, whose number goes behind `length`. 1, 3, 12. Proved by hand, as `pairs::pair_run` is: the two lent places are passed on.
+#[no_mangle]
+pub extern "C" fn dos33_pair_run(
+    disk: &[u8],
+    track: u8,
+    sector: u8,
+    run: &mut [TrackSectorPair],
+    length: &mut u64,
+) -> u8
+    ensures { λ r. ⌜ Exports (pairRun 16 (now (disk .entry)) (place track sector)) (now (run .entry)) (now (run .exit)) (now (length .entry)) (now (length .exit)) r ⌝ }
+{
+    let answer = pairs::pair_run(disk, track, sector, run);
     tell(answer, length)
 }
 
