@@ -5,8 +5,8 @@ use mathlib.Core.List.{List, [], _∷_, _++_}
 use Prim.Native.Nat.{ℕ, zero, suc, _+_, _-_, _<_, _≤_}
 use native.Mathlib.Omega.{arith}
 use lib.ListN.{length, getD, drop}
-use lib.Dec.{eqb, leb}
-use borrow.Author.Tests.{eq-eqb, le-leb, lt-leb}
+use lib.Dec.{eqb, leb, ltb}
+use borrow.Author.Tests.{eq-eqb, le-leb, lt-leb, lt-ltb, le-ltb}
 use borrow.Author.Needs.{needs}
 use Rattle.lists.specs.Fill.{placed, tab}
 use Rattle.lists.proofs.Laws.{tab-self}
@@ -28,7 +28,7 @@ use Rattle.files.specs.Survey.{Survey, survey, surveyed}
 use Rattle.archive.specs.Reader.{opened}
 use Rattle.reader.specs.declared.Opened.{Opened}
 use Rattle.reader.specs.declared.Entry.{Entry}
-use Rattle.reader.specs.Steps.{openedWith, entryOf, fieldsOf, entryWith}
+use Rattle.reader.specs.Steps.{openedWith, entryOf, fieldsOf, entryWith, isEntry, entryStep}
 use Rattle.records.specs.declared.Format.{Format}
 use Rattle.records.specs.Formats.{recognized, formatOf}
 use Rattle.host.specs.Exports.{Exports, Fields, vtocValues, vtocNumbers, surveyNumbers, openNumbers, entryFields, entryNumbers, formatNumbers}
@@ -155,7 +155,19 @@ module _ (a : List ℕ) (d : List ℕ) where
       → Fields (given (entryFields s)) d o r → Fields (entryNumbers a b) d o r
   entry-given b s h z o r u = given-fields (entryNumbers a b) (entryFields s) d o r (entry-yes b (opened a) s refl h z) u
 
-pub ruleset opening = (open-refused, open-given, entry-refused, entry-given, needs)
+  -- a step, whatever the block
+  none-past : (b : ℕ) → ltb b 4096 ≡ false → entryStep a 0 ≡ entryStep a b
+  unfolding entryStep isEntry
+  none-past b e = by-test (ltb 0 b) (λ z. rw (z, e) refl) (λ z. rw z refl)
+
+  step-block : (b : ℕ) → entryStep a (cond (ltb b 4096) b 0) ≡ entryStep a b
+  step-block b = by-test (ltb b 4096) (λ e. ap (λ (t : Bool). entryStep a (cond t b 0)) e) (λ e. ap (λ (t : Bool). entryStep a (cond t b 0)) e ∙ none-past b e)
+
+  pub step-given : (b k : ℕ) (s : Entry) → k ≡ cond (ltb b 4096) b 0 → s ≡ entryStep a k → (o : List ℕ) (r : ℕ)
+      → Fields (given (entryFields s)) d o r → Fields (given (entryFields (entryStep a b))) d o r
+  step-given b k s h e o r u = subst (λ (y : Entry). Fields (given (entryFields y)) d o r) (e ∙ ap (entryStep a) h ∙ step-block b) u
+
+pub ruleset opening = (open-refused, open-given, entry-refused, entry-given, step-given, lt-ltb, le-ltb, needs)
 
 -- ---- the recogniser
 module _ (x : List ℕ) (d : List ℕ) where

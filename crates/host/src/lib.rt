@@ -15,11 +15,13 @@ ghost use Rattle.stream.specs.Stream.{image, sectorOf, nibblized};
 ghost use Rattle.archive.specs.Archive.{archiveOf, check};
 ghost use Prim.Native.Nat.{_≤_};
 ghost use lib.ListN.{length, drop};
+ghost use lib.Dec.{ltb};
 ghost use mathlib.Core.List.{_++_, _∷_, []};
 ghost use Rattle.outcome.specs.Outcome.{given};
 ghost use Rattle.records.specs.Records.{entryWritten, pageWritten, fileWritten};
 ghost use Rattle.stream.specs.Search.{recognized};
-ghost use Rattle.host.specs.Exports.{Exports, Fields, Told, yes, vtocNumbers, surveyNumbers, openNumbers, entryNumbers, formatNumbers};
+ghost use Rattle.reader.specs.Steps.{entryStep};
+ghost use Rattle.host.specs.Exports.{Exports, Fields, Told, yes, vtocNumbers, surveyNumbers, openNumbers, entryFields, entryNumbers, formatNumbers};
 use disk::Place;
 use disk::Sector;
 use disk::Track;
@@ -27,6 +29,7 @@ use lists::copy_at;
 use outcome::Handed;
 use outcome::TRAY_SHORT;
 use pairs::TrackSectorPair;
+use reader::Entry;
 
 // Tells an answer: its number is the result, its length goes behind `length`.
 fn tell(h: Handed, length: &mut u64) -> u8
@@ -380,15 +383,10 @@ pub extern "C" fn dos33_archive_open(archive: &[u8], fields: &mut [u64]) -> u8
     put_fields(&values, fields)
 }
 
-// The numbers of an archive's entry by its block; eight zeros at the end. 13, 12.
-#[no_mangle]
-pub extern "C" fn dos33_archive_entry(archive: &[u8], block: u64, fields: &mut [u64]) -> u8
-    ensures { λ r. ⌜ Fields (entryNumbers (now (archive .entry)) block) (now (fields .entry)) (now (fields .exit)) r ⌝ }
+// Hands the numbers of an entry over.
+fn put_entry(e: Entry, fields: &mut [u64]) -> u8
+    ensures { λ r. ⌜ Fields (given (entryFields e)) (now (fields .entry)) (now (fields .exit)) r ⌝ }
 {
-    let e = reader::entry_at(archive, block);
-    if e.refusal != 0 {
-        return e.refusal;
-    }
     let values = [
         e.found as u64,
         e.next as u64,
@@ -400,6 +398,37 @@ pub extern "C" fn dos33_archive_entry(archive: &[u8], block: u64, fields: &mut [
         e.size as u64,
     ];
     put_fields(&values, fields)
+}
+
+// The numbers of an archive's entry by its block; eight zeros at the end. 13, 12.
+#[no_mangle]
+pub extern "C" fn dos33_archive_entry(archive: &[u8], block: u64, fields: &mut [u64]) -> u8
+    ensures { λ r. ⌜ Fields (entryNumbers (now (archive .entry)) block) (now (fields .entry)) (now (fields .exit)) r ⌝ }
+{
+    let e = reader::entry_at(archive, block);
+    if e.refusal != 0 {
+        return e.refusal;
+    }
+    put_entry(e, fields)
+}
+
+// A block that may have an entry, else 0.
+fn block_number(block: u64) -> u16
+    ensures { λ r. ⌜ r ≡ cond (ltb block 4096) block 0 ⌝ }
+{
+    if block < 4096 {
+        return block as u16;
+    }
+    0
+}
+
+// The same of a block that opening or a step gave: that block alone is looked at. 12.
+#[no_mangle]
+pub extern "C" fn dos33_archive_step(archive: &[u8], block: u64, fields: &mut [u64]) -> u8
+    ensures { λ r. ⌜ Fields (given (entryFields (entryStep (now (archive .entry)) block))) (now (fields .entry)) (now (fields .exit)) r ⌝ }
+{
+    let e = cursor::entry_from(archive, block_number(block));
+    put_entry(e, fields)
 }
 
 // 1 for yes, 0 for no.

@@ -8,16 +8,7 @@ dos33-archive-entry-spec =
     (tie.spec
     (λ c κs. search opening)  -- entry-at-requires
     (λ c. search opening)  -- returns
-    (λ c. search opening)  -- cast-t7
-    (λ c. search opening)  -- cast-t8
-    (λ c. search opening)  -- cast-t9
-    (λ c. search opening)  -- cast-t10
-    (λ c. search opening)  -- cast-t11
-    (λ c. search opening)  -- cast-t12
-    (λ c. search opening)  -- cast-t13
-    (λ c. search opening)  -- cast-t14
-    (λ c. search opening)  -- slice-aggregate-put-fields
-    (λ c κs. search opening)  -- put-fields-requires
+    (λ c κs. search opening)  -- put-entry-requires
     (λ c. search opening)  -- same-length
     (λ c. search opening)  -- returns-2
     )
