@@ -1,5 +1,6 @@
 // Compares crates/host with image-rider on generated inputs: cargo run --release -- [SEED] [COUNT]
 // Times and ratios: cargo run --release -- --bench
+// image-rider's answers to a script: cargo run --release -- --record < SCRIPT
 // One flat disk or stream in a file: cargo run --release -- --load FILE, or --stream FILE
 mod bench;
 mod disks;
@@ -8,6 +9,7 @@ mod load;
 mod ours;
 mod panics;
 mod random;
+mod record;
 mod records;
 mod report;
 mod shims;
@@ -32,6 +34,11 @@ fn main() {
 
     if arguments.first().is_some_and(|a| a == "--bench") {
         bench::run(&config);
+        return;
+    }
+
+    if arguments.first().is_some_and(|a| a == "--record") {
+        record::run(&config);
         return;
     }
 
