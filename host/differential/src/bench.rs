@@ -1,47 +1,77 @@
 // Ours beside image-rider on the same inputs, and archives beside a copy of as many bytes. Prints times and ratios.
+// And one thing done so many times over, for a counter of instructions (count.sh).
 use std::hint::black_box;
 use std::time::Instant;
 
 use crate::config::Config;
 use crate::disk_format::apple::disk::{apple_disk_parser, AppleDiskGuess, Encoding, Format};
 use crate::disk_format::apple::nibble::{build_nibble_sector, parse_nib_disk};
+use crate::disks::SIZE;
 use crate::random::Random;
 use crate::streams::tail;
 
-extern "C" {
-    fn dos33_catalog(d: *const u8, n: usize, out: *mut u8, size: usize, length: *mut u64) -> u8;
-    fn dos33_file(
-        d: *const u8,
-        n: usize,
-        entry: u64,
-        out: *mut u8,
-        size: usize,
-        length: *mut u64,
-    ) -> u8;
-    fn dos33_survey(d: *const u8, n: usize, fields: *mut u64, count: usize) -> u8;
-    fn dos33_archive_write(
-        d: *const u8,
-        n: usize,
-        out: *mut u8,
-        size: usize,
-        length: *mut u64,
-    ) -> u8;
-    fn dos33_archive_check(d: *const u8, n: usize, archive: *const u8, size: usize) -> u8;
-    fn dos33_archive_open(archive: *const u8, size: usize, fields: *mut u64, count: usize) -> u8;
-    fn dos33_encode_sector(
-        s: *const u8,
-        n: usize,
-        out: *mut u8,
-        size: usize,
-        length: *mut u64,
-    ) -> u8;
-    fn dos33_nibblize(d: *const u8, n: usize, out: *mut u8, size: usize, length: *mut u64) -> u8;
-    fn dos33_denibblize(s: *const u8, n: usize, out: *mut u8, size: usize, length: *mut u64) -> u8;
+mod raw {
+    extern "C" {
+        pub fn dos33_catalog(
+            d: *const u8,
+            n: usize,
+            out: *mut u8,
+            size: usize,
+            length: *mut u64,
+        ) -> u8;
+        pub fn dos33_file(
+            d: *const u8,
+            n: usize,
+            entry: u64,
+            out: *mut u8,
+            size: usize,
+            length: *mut u64,
+        ) -> u8;
+        pub fn dos33_survey(d: *const u8, n: usize, fields: *mut u64, count: usize) -> u8;
+        pub fn dos33_archive_write(
+            d: *const u8,
+            n: usize,
+            out: *mut u8,
+            size: usize,
+            length: *mut u64,
+        ) -> u8;
+        pub fn dos33_archive_check(d: *const u8, n: usize, archive: *const u8, size: usize) -> u8;
+        pub fn dos33_archive_open(
+            archive: *const u8,
+            size: usize,
+            fields: *mut u64,
+            count: usize,
+        ) -> u8;
+        pub fn dos33_encode_sector(
+            s: *const u8,
+            n: usize,
+            out: *mut u8,
+            size: usize,
+            length: *mut u64,
+        ) -> u8;
+        pub fn dos33_nibblize(
+            d: *const u8,
+            n: usize,
+            out: *mut u8,
+            size: usize,
+            length: *mut u64,
+        ) -> u8;
+        pub fn dos33_denibblize(
+            s: *const u8,
+            n: usize,
+            out: *mut u8,
+            size: usize,
+            length: *mut u64,
+        ) -> u8;
+    }
 }
 
-// A full disk: Binary files of six sectors, one list each.
-fn full_disk(random: &mut Random) -> (Vec<u8>, u64) {
-    let mut disk = vec![0u8; 143_360];
+// How many data sectors each file of a full disk has: 75 files, 25 and 8.
+const FILES: [usize; 3] = [6, 20, 65];
+
+// A full disk of Binary files of so many sectors, one list each.
+fn full_disk(random: &mut Random, size: usize) -> (Vec<u8>, u64) {
+    let mut disk = vec![0u8; SIZE];
     let start = |sector: usize| 256 * sector;
     let vtoc = start(17 * 16);
     disk[vtoc + 1] = 17;
@@ -52,7 +82,7 @@ fn full_disk(random: &mut Random) -> (Vec<u8>, u64) {
     // A pair with track 0 is none, and an entry with list track 0 is not in use.
     let free: Vec<usize> = (16..560).filter(|s| s / 16 != 17).collect();
     let mut count = 0;
-    for sectors in free.chunks_exact(7) {
+    for sectors in free.chunks_exact(size + 1) {
         let page = start(17 * 16 + 15 - count / 7);
         if count % 7 == 0 && count > 0 {
             disk[page + 256 + 1] = 17;
@@ -65,7 +95,8 @@ fn full_disk(random: &mut Random) -> (Vec<u8>, u64) {
             disk[start(*s)..start(*s) + 256].copy_from_slice(&random.bytes(256));
         }
         let first = start(sectors[1]);
-        disk[first + 2..first + 4].copy_from_slice(&(6 * 256 - 4u16).to_le_bytes());
+        let length = (256 * size - 4) as u16;
+        disk[first + 2..first + 4].copy_from_slice(&length.to_le_bytes());
         let entry = page + 11 + 35 * (count % 7);
         disk[entry] = (sectors[0] / 16) as u8;
         disk[entry + 1] = (sectors[0] % 16) as u8;
@@ -73,121 +104,289 @@ fn full_disk(random: &mut Random) -> (Vec<u8>, u64) {
         disk[entry + 3..entry + 33].fill(0xA0);
         disk[entry + 3] = 0xC1 + (count % 26) as u8;
         disk[entry + 4] = 0xC1 + (count / 26) as u8;
-        disk[entry + 33] = 7;
+        disk[entry + 33] = (size + 1) as u8;
         count += 1;
     }
     (disk, count as u64)
 }
 
-// The least of many runs, in nanoseconds.
-fn least(runs: usize, mut work: impl FnMut()) -> f64 {
-    let mut best = f64::MAX;
-    for _ in 0..runs {
-        let begin = Instant::now();
-        work();
-        best = best.min(begin.elapsed().as_nanos() as f64);
-    }
-    best
+// What both work on, and the space that ours fills.
+struct Work<'c> {
+    config: &'c Config,
+    disk: Vec<u8>,
+    files: u64,
+    stream: Vec<u8>,
+    // The stream with the end that image-rider wants.
+    ended: Vec<u8>,
+    archive: Vec<u8>,
+    sector: Vec<u8>,
+    out: Vec<u8>,
+    length: u64,
+    fields: [u64; 7],
 }
 
-fn beside(what: &str, ours: f64, other: &str, theirs: f64) {
-    println!(
-        "{what:34} {ours:12.0} ns   {other:12} {theirs:12.0} ns   {other} / ours {:6.2}",
-        theirs / ours
+impl<'c> Work<'c> {
+    fn new(config: &'c Config, size: usize) -> Work<'c> {
+        let random = &mut Random::new(1);
+        let (disk, files) = full_disk(random, size);
+        let mut work = Work {
+            config,
+            disk,
+            files,
+            stream: Vec::new(),
+            ended: Vec::new(),
+            archive: Vec::new(),
+            sector: random.bytes(256),
+            out: vec![0; 1 << 20],
+            length: 0,
+            fields: [0; 7],
+        };
+        work.nibblize();
+        work.stream = work.out[..work.length as usize].to_vec();
+        work.ended = [&work.stream[..], &tail()].concat();
+        work.archive_write();
+        work.archive = work.out[..work.length as usize].to_vec();
+        work
+    }
+
+    fn survey(&mut self) {
+        let (d, n) = (self.disk.as_ptr(), self.disk.len());
+        assert_eq!(
+            unsafe { raw::dos33_survey(d, n, self.fields.as_mut_ptr(), 7) },
+            0
+        );
+        assert_eq!(self.fields[1], self.files);
+    }
+
+    fn catalog(&mut self) {
+        let (d, n) = (self.disk.as_ptr(), self.disk.len());
+        let (o, size) = (self.out.as_mut_ptr(), self.out.len());
+        assert_eq!(
+            unsafe { raw::dos33_catalog(d, n, o, size, &mut self.length) },
+            0
+        );
+        assert_eq!(self.length, 37 * self.files);
+    }
+
+    fn file(&mut self, k: u64) {
+        let (d, n) = (self.disk.as_ptr(), self.disk.len());
+        let (o, size) = (self.out.as_mut_ptr(), self.out.len());
+        assert_eq!(
+            unsafe { raw::dos33_file(d, n, k, o, size, &mut self.length) },
+            0
+        );
+        assert!(self.length > 1500);
+    }
+
+    fn all_files(&mut self) {
+        self.catalog();
+        for k in 0..self.files {
+            self.file(k);
+        }
+    }
+
+    fn archive_write(&mut self) {
+        let (d, n) = (self.disk.as_ptr(), self.disk.len());
+        let (o, size) = (self.out.as_mut_ptr(), self.out.len());
+        assert_eq!(
+            unsafe { raw::dos33_archive_write(d, n, o, size, &mut self.length) },
+            0
+        );
+    }
+
+    fn archive_check(&mut self) {
+        let (d, n) = (self.disk.as_ptr(), self.disk.len());
+        let (a, size) = (self.archive.as_ptr(), self.archive.len());
+        assert_eq!(unsafe { raw::dos33_archive_check(d, n, a, size) }, 0);
+    }
+
+    fn archive_open(&mut self) {
+        let (a, size) = (self.archive.as_ptr(), self.archive.len());
+        assert_eq!(
+            unsafe { raw::dos33_archive_open(a, size, self.fields.as_mut_ptr(), 3) },
+            0
+        );
+    }
+
+    fn encode_sector(&mut self) {
+        let (o, size) = (self.out.as_mut_ptr(), self.out.len());
+        let s = black_box(self.sector.as_ptr());
+        assert_eq!(
+            unsafe { raw::dos33_encode_sector(s, 256, o, size, &mut self.length) },
+            0
+        );
+    }
+
+    fn nibblize(&mut self) {
+        let (d, n) = (self.disk.as_ptr(), self.disk.len());
+        let (o, size) = (self.out.as_mut_ptr(), self.out.len());
+        assert_eq!(
+            unsafe { raw::dos33_nibblize(d, n, o, size, &mut self.length) },
+            0
+        );
+    }
+
+    fn denibblize(&mut self) {
+        let (s, n) = (self.stream.as_ptr(), self.stream.len());
+        let (o, size) = (self.out.as_mut_ptr(), self.out.len());
+        assert_eq!(
+            unsafe { raw::dos33_denibblize(s, n, o, size, &mut self.length) },
+            0
+        );
+    }
+
+    fn rust_load(&mut self) {
+        let guess = AppleDiskGuess::new(Encoding::Plain, Format::DOS33(143_360), &self.disk);
+        assert!(black_box(apple_disk_parser(black_box(&guess), self.config)).is_ok());
+    }
+
+    fn rust_stream(&mut self) {
+        assert!(black_box(parse_nib_disk(self.config)(black_box(&self.ended))).is_ok());
+    }
+
+    fn rust_sector(&mut self) {
+        black_box(build_nibble_sector(black_box(&self.sector)));
+    }
+}
+
+type Thing = (&'static str, fn(&mut Work));
+
+const THINGS: [Thing; 13] = [
+    ("survey", |w| w.survey()),
+    ("catalog", |w| w.catalog()),
+    ("file-0", |w| w.file(0)),
+    ("catalog-and-files", |w| w.all_files()),
+    ("archive-write", |w| w.archive_write()),
+    ("archive-check", |w| w.archive_check()),
+    ("archive-open", |w| w.archive_open()),
+    ("encode-sector", |w| w.encode_sector()),
+    ("nibblize", |w| w.nibblize()),
+    ("denibblize", |w| w.denibblize()),
+    ("apple_disk_parser", |w| w.rust_load()),
+    ("parse_nib_disk", |w| w.rust_stream()),
+    ("build_nibble_sector", |w| w.rust_sector()),
+];
+
+// One thing so many times, on the full disk of 75, 25 or 8 files. Without words it prints what there is.
+pub fn count(words: &[String], config: &Config) -> Result<(), String> {
+    let [what, times, files] = words else {
+        THINGS.iter().for_each(|(name, _)| println!("{name}"));
+        return Ok(());
+    };
+    let thing = THINGS.iter().find(|(name, _)| name == what);
+    let (_, thing) = thing.ok_or(format!("no such thing: {what}"))?;
+    let number = |text: &String| text.parse::<u64>().map_err(|e| format!("{text}: {e}"));
+    let (times, files) = (number(times)?, number(files)?);
+    let size = FILES.iter().find(|size| 528 / (*size + 1) as u64 == files);
+    let mut work = Work::new(config, *size.ok_or(format!("no disk of {files} files"))?);
+    for _ in 0..times {
+        thing(&mut work);
+    }
+    Ok(())
+}
+
+// The least time of each of the two, in nanoseconds. They take turns, so that both meet the machine as it is.
+fn least<W>(work: &mut W, runs: usize, ours: fn(&mut W), theirs: fn(&mut W)) -> (f64, f64) {
+    let mut best = [f64::MAX; 2];
+    for _ in 0..40 {
+        for (best, thing) in best.iter_mut().zip([ours, theirs]) {
+            for _ in 0..runs {
+                let begin = Instant::now();
+                thing(work);
+                *best = best.min(begin.elapsed().as_nanos() as f64);
+            }
+        }
+    }
+    (best[0], best[1])
+}
+
+fn row(what: &str, ours: f64, other: &str, theirs: f64) {
+    let ratio = if other == "memcpy" {
+        format!("ours / {other} {:6.2}", ours / theirs)
+    } else {
+        format!("{other} / ours {:6.2}", theirs / ours)
+    };
+    println!("{what:34} {ours:12.0} ns   {other:12} {theirs:12.0} ns   {ratio}");
+}
+
+fn beside_rust(work: &mut Work, what: &str, ours: fn(&mut Work), theirs: fn(&mut Work)) {
+    let (ours, theirs) = least(work, 10, ours, theirs);
+    row(what, ours, "image-rider", theirs);
+}
+
+// Flat reading beside the Rust's load, which is the catalog and the bytes of every file.
+fn reading(work: &mut Work) {
+    beside_rust(
+        work,
+        "catalog, and every file fetched",
+        |w| w.all_files(),
+        |w| w.rust_load(),
+    );
+    beside_rust(
+        work,
+        "every file, as an archive",
+        |w| w.archive_write(),
+        |w| w.rust_load(),
+    );
+    beside_rust(work, "one file fetched", |w| w.file(0), |w| w.rust_load());
+    beside_rust(
+        work,
+        "survey (all lists followed)",
+        |w| w.survey(),
+        |w| w.rust_load(),
+    );
+}
+
+// Archives beside a copy of as many bytes.
+fn archives(work: &mut Work) {
+    let things: [Thing; 3] = [
+        ("archive written", |w| w.archive_write()),
+        ("archive checked", |w| w.archive_check()),
+        ("archive opened", |w| w.archive_open()),
+    ];
+    for (what, thing) in things {
+        let (ours, memcpy) = least(work, 50, thing, |w| {
+            let n = w.archive.len();
+            black_box(&mut w.out)[..n].copy_from_slice(black_box(&w.archive));
+        });
+        row(what, ours, "memcpy", memcpy);
+    }
+}
+
+fn nibbles(work: &mut Work) {
+    work.denibblize();
+    assert_eq!(work.out[..SIZE], work.disk[..]);
+    beside_rust(
+        work,
+        "a full stream to a flat disk",
+        |w| w.denibblize(),
+        |w| w.rust_stream(),
+    );
+    let (ours, theirs) = least(
+        work,
+        20,
+        |w| (0..100).for_each(|_| w.encode_sector()),
+        |w| (0..100).for_each(|_| w.rust_sector()),
+    );
+    row(
+        "a sector encoded",
+        ours / 100.0,
+        "image-rider",
+        theirs / 100.0,
     );
 }
 
 pub fn run(config: &Config) {
-    let random = &mut Random::new(1);
-    let (disk, files) = full_disk(random);
-    let (d, n) = (disk.as_ptr(), disk.len());
-    let mut out = vec![0u8; 1 << 20];
-    let (o, size) = (out.as_mut_ptr(), out.len());
-    let mut length = 0u64;
-    let mut fields = [0u64; 7];
-
-    unsafe {
-        assert_eq!(dos33_survey(d, n, fields.as_mut_ptr(), 7), 0);
-        assert_eq!(fields[1], files);
-        println!("a disk of {files} files, {} archive blocks", fields[5]);
-
-        let guess = AppleDiskGuess::new(Encoding::Plain, Format::DOS33(143_360), &disk);
-        assert!(apple_disk_parser(&guess, config).is_ok());
-        let theirs = least(100, || {
-            black_box(apple_disk_parser(black_box(&guess), config).is_ok());
-        });
-        let ours = least(100, || {
-            dos33_catalog(d, n, o, size, &mut length);
-            for k in 0..files {
-                assert_eq!(dos33_file(d, n, k, o, size, &mut length), 0);
-            }
-        });
-        beside(
-            "catalog, and every file fetched",
-            ours,
-            "image-rider",
-            theirs,
+    for size in FILES {
+        let work = &mut Work::new(config, size);
+        work.survey();
+        println!(
+            "a full disk: {} files of {size} sectors, {} archive blocks",
+            work.files, work.fields[5]
         );
-        let survey = least(1000, || {
-            dos33_survey(d, n, fields.as_mut_ptr(), 7);
-        });
-        beside("survey (all lists followed)", survey, "image-rider", theirs);
-
-        let mut stream = vec![0u8; 232_960];
-        assert_eq!(
-            dos33_nibblize(d, n, stream.as_mut_ptr(), stream.len(), &mut length),
-            0
-        );
-        let ended = [&stream[..], &tail()].concat();
-        assert!(parse_nib_disk(config)(&ended).is_ok());
-        let theirs = least(20, || {
-            black_box(parse_nib_disk(config)(black_box(&ended)).is_ok());
-        });
-        let ours = least(100, || {
-            assert_eq!(
-                dos33_denibblize(stream.as_ptr(), stream.len(), o, size, &mut length),
-                0
-            );
-        });
-        assert_eq!(out[..n], disk[..]);
-        beside("a full stream to a flat disk", ours, "image-rider", theirs);
-
-        let sector = random.bytes(256);
-        let theirs = least(1000, || {
-            for _ in 0..100 {
-                black_box(build_nibble_sector(black_box(&sector)));
-            }
-        }) / 100.0;
-        let ours = least(1000, || {
-            for _ in 0..100 {
-                dos33_encode_sector(black_box(sector.as_ptr()), 256, o, size, &mut length);
-            }
-        }) / 100.0;
-        beside("a sector encoded", ours, "image-rider", theirs);
-
-        assert_eq!(dos33_archive_write(d, n, o, size, &mut length), 0);
-        let archive = out[..length as usize].to_vec();
-        let mut copy = vec![0u8; archive.len()];
-        let memcpy = least(1000, || {
-            black_box(&mut copy).copy_from_slice(black_box(&archive));
-        });
-        let write = least(1000, || {
-            dos33_archive_write(d, n, o, size, &mut length);
-        });
-        beside("archive written", write, "memcpy", memcpy);
-        let check = least(1000, || {
-            assert_eq!(
-                dos33_archive_check(d, n, archive.as_ptr(), archive.len()),
-                0
-            );
-        });
-        beside("archive checked", check, "memcpy", memcpy);
-        let open = least(1000, || {
-            assert_eq!(
-                dos33_archive_open(archive.as_ptr(), archive.len(), fields.as_mut_ptr(), 3),
-                0
-            );
-        });
-        beside("archive opened", open, "memcpy", memcpy);
+        reading(work);
+        archives(work);
     }
+    println!("nibbles, on the disk of {} sectors a file", FILES[0]);
+    nibbles(&mut Work::new(config, FILES[0]));
 }

@@ -1,5 +1,7 @@
 // Compares crates/host with image-rider on generated inputs: cargo run --release -- [SEED] [COUNT]
 // Times and ratios: cargo run --release -- --bench
+// One thing many times, for a counter of instructions: cargo run --release -- --count WHAT TIMES FILES
+// image-rider's answers to a script: cargo run --release -- --record < SCRIPT
 // One flat disk or stream in a file: cargo run --release -- --load FILE, or --stream FILE
 mod bench;
 mod disks;
@@ -8,6 +10,7 @@ mod load;
 mod ours;
 mod panics;
 mod random;
+mod record;
 mod records;
 mod report;
 mod shims;
@@ -32,6 +35,19 @@ fn main() {
 
     if arguments.first().is_some_and(|a| a == "--bench") {
         bench::run(&config);
+        return;
+    }
+
+    if arguments.first().is_some_and(|a| a == "--count") {
+        if let Err(why) = bench::count(&arguments[1..], &config) {
+            eprintln!("{why}");
+            std::process::exit(2);
+        }
+        return;
+    }
+
+    if arguments.first().is_some_and(|a| a == "--record") {
+        record::run(&config);
         return;
     }
 

@@ -132,7 +132,7 @@ fn name_bytes(random: &mut Random) -> Vec<u8> {
     name
 }
 
-fn plain(name: &[u8]) -> bool {
+pub fn plain(name: &[u8]) -> bool {
     name.iter().all(|b| *b < 0x80)
 }
 

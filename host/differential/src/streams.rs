@@ -243,11 +243,10 @@ fn damage(random: &mut Random, stream: &mut Vec<u8>) {
 }
 
 // What image-rider gives: its sectors, 8 or 9, or none since it does not return (Incomplete).
-fn theirs(
-    stream: &[u8],
-    config: &Config,
-    report: &Report,
-) -> Option<Result<BTreeMap<Key, Vec<u8>>, u8>> {
+type Found = Option<Result<BTreeMap<Key, Vec<u8>>, u8>>;
+
+// The same, or the text of a panic that has no number.
+pub fn image_rider(stream: &[u8], config: &Config) -> Result<Found, String> {
     let result = caught(|| match parse_nib_disk(config)(stream) {
         Ok((_, disk)) => {
             let mut all = BTreeMap::new();
@@ -264,18 +263,16 @@ fn theirs(
         Err(e) => panic!("{e}"),
     });
     match result {
-        Ok(Some(all)) => Some(Ok(all)),
-        Ok(None) => None,
-        Err(text) => {
-            if text.contains("Address field computed checksum") {
-                Some(Err(8))
-            } else if text.contains("Invalid checksum on data") {
-                Some(Err(9))
-            } else {
-                report.difference("stream", stream, format!("panic {text}"))
-            }
-        }
+        Ok(found) => Ok(found.map(Ok)),
+        Err(text) if text.contains("Address field computed checksum") => Ok(Some(Err(8))),
+        Err(text) if text.contains("Invalid checksum on data") => Ok(Some(Err(9))),
+        Err(text) => Err(text),
     }
+}
+
+fn theirs(stream: &[u8], config: &Config, report: &Report) -> Found {
+    image_rider(stream, config)
+        .unwrap_or_else(|text| report.difference("stream", stream, format!("panic {text}")))
 }
 
 pub fn sectors(random: &mut Random, config: &Config, ours: &mut Ours, report: &mut Report) {

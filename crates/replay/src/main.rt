@@ -1,0 +1,457 @@
+// The recorded answers of image-rider, asked of our libraries again. Standard input is the script that image-rider was asked, and `stdout` is what it answered.
+// README.md says how the two were made. A line is a letter, six hexadecimal digits and bytes in hexadecimal; a number or place PPPPPP has its high digits first.
+// There is one input, of which a front is in use, a space to put bytes in, and a line of answer for each step that asks:
+//     = title          printed as it is
+//     # comment        passed over, as is an empty line
+//     N NNNNNN VV      NNNNNN bytes are in use, each of them VV
+//     P PPPPPP VV..    put these bytes, 64 at most, at place PPPPPP
+//     F PPPPPP NN NN VV    put NNNN times VV, high byte first, at place PPPPPP
+//     U PPPPPP VV      put VV, VV + 1, VV + 2 and so on at 256 bytes from place PPPPPP on
+//     L 000000         load the input as a flat disk: its number, table and entries, and for each entry the bytes of its name
+//     K VVTTSS         the sector of volume VV, track TT, sector SS, the input being a nibble stream
+//     E PPPPPP         the 342 nibbles of the 256 bytes at place PPPPPP
+//     D TTSSKK LL CC CC VV..    the record of an entry: list track and sector, type, lock, sector count (low byte first), name
+//     G 000000         the catalog page with the first 11 bytes for its header, and behind them entries of 37 bytes
+//     B 000000         the file with type, address and length in the first five bytes (low bytes first), and behind them its data
+//     M 000000         the prologue recognized in the input
+//     O 000000         whether the input is a DOS 3.3 disk
+ghost use Prim.Native.Nat.{_<_};
+use disk::Place;
+use disk::Sector;
+use disk::Track;
+use disk::VolumeTableOfContents;
+use libc::STDIN_FILENO;
+use libc::STDOUT_FILENO;
+use lists::byte_at;
+use lists::part;
+use lists::word_at;
+use outcome::Handed;
+
+fn print(text: &[u8]) {
+    io::write_all(STDOUT_FILENO, text);
+}
+
+fn print_number(text: &[u8], n: u64) {
+    print(text);
+    print(b" ");
+    io::print_decimal(STDOUT_FILENO, n);
+}
+
+fn byte_number(text: &[u8], b: u8) {
+    print_number(text, b as u64);
+}
+
+fn print_line(text: &[u8], n: u64) {
+    print_number(text, n);
+    print(b"\n");
+}
+
+fn digit_of(n: u8) -> u8 {
+    if n < 10 {
+        return 48 + n % 10;
+    }
+    55 + n % 16
+}
+
+fn byte_hex(b: u8) {
+    print(&[32, digit_of(b / 16), digit_of(b % 16)]);
+}
+
+fn print_bytes(bytes: &[u8]) {
+    let mut i: usize = 0;
+    while i < bytes.len() {
+        byte_hex(byte_at(bytes, i));
+        i += 1;
+    }
+}
+
+fn added(a: u32, b: u32) -> u32
+    ensures { λ r. ⌜ r < 65521 ⌝ }
+{
+    (a % 65521 + b % 65521) % 65521
+}
+
+fn joined(high: u32, low: u32) -> u64 {
+    65536 * (high as u64) + low as u64
+}
+
+// Adler's sum of 32 bits.
+fn adler(bytes: &[u8]) -> u64 {
+    let mut a: u32 = 1;
+    let mut b: u32 = 0;
+    let mut i: usize = 0;
+    while i < bytes.len() {
+        a = added(a, byte_at(bytes, i) as u32);
+        b = added(b, a);
+        i += 1;
+    }
+    joined(b, a)
+}
+
+// Up to 512 bytes themselves, and of more their sum.
+fn content(bytes: &[u8]) {
+    print_number(b", length", bytes.len() as u64);
+    if bytes.len() <= 512 {
+        print(b", bytes");
+        print_bytes(bytes);
+        return;
+    }
+    print_number(b", sum", adler(bytes));
+}
+
+fn answer_line(h: Handed, space: &[u8]) {
+    byte_number(b"  number", h.refusal);
+    if h.refusal == 0 {
+        content(part(space, 0, h.length));
+    }
+    print(b"\n");
+}
+
+fn front(t: VolumeTableOfContents) {
+    byte_number(b"vtoc", t.track_number_of_first_catalog_sector);
+    byte_number(b"", t.sector_number_of_first_catalog_sector);
+    byte_number(b"", t.release_number_of_dos);
+    byte_number(b"", t.diskette_volume_number);
+    byte_number(b"", t.maximum_number_of_track_sector_pairs);
+    byte_number(b"", t.last_track_where_sectors_were_allocated);
+}
+
+fn print_direction(n: i8) {
+    if n == 1 {
+        print(b" 1");
+        return;
+    }
+    if n == -1 {
+        print(b" 255");
+        return;
+    }
+    if n == 0 {
+        print(b" 0");
+        return;
+    }
+    print(b" neither 1, -1 nor 0");
+}
+
+fn table_line(t: VolumeTableOfContents) {
+    front(t);
+    print_direction(t.direction_of_track_allocation);
+    byte_number(b"", t.number_of_tracks_per_diskette);
+    byte_number(b"", t.number_of_sectors_per_track);
+    print_line(b"", t.number_of_bytes_per_sector as u64);
+}
+
+// The name shown in an entry of 37 bytes.
+fn name_of(entry: &[u8]) -> &[u8] {
+    part(entry, 5, byte_at(entry, 4) as usize)
+}
+
+fn entry_line(entry: &[u8]) {
+    if entry.len() < 37 {
+        return;
+    }
+    byte_number(b"entry", byte_at(entry, 0));
+    byte_number(b"", byte_at(entry, 1));
+    byte_number(b" type", byte_at(entry, 2));
+    byte_number(b" locked", byte_at(entry, 3));
+    print_number(b" sectors", word_at(entry, 35) as u64);
+    print(b" name");
+    print_bytes(name_of(entry));
+    print(b"\n");
+}
+
+fn entry_lines(entries: &[u8]) {
+    for i in 0..1000u16 {
+        entry_line(part(entries, 37 * i as usize, 37));
+    }
+}
+
+fn file_lines(disk: &[u8], entry: &[u8], space: &mut [u8]) {
+    if entry.len() < 37 {
+        return;
+    }
+    let name = name_of(entry);
+    print(b"file");
+    print_bytes(name);
+    print(b"\n");
+    let h = files::fetch(disk, name, space);
+    answer_line(h, space);
+}
+
+fn all_file_lines(disk: &[u8], entries: &[u8], space: &mut [u8]) {
+    for i in 0..1000u16 {
+        file_lines(disk, part(entries, 37 * i as usize, 37), space);
+    }
+}
+
+fn show_load(disk: &[u8], entries: &mut [u8], space: &mut [u8]) {
+    let h = files::file(disk, 0, space);
+    print_line(b"load", h.refusal as u64);
+    if h.refusal != 0 {
+        return;
+    }
+    table_line(disk::parse_volume_table_of_contents(disk));
+    let listing = catalog::parse_catalogs(disk, entries);
+    let found = part(entries, 0, listing.handed.length);
+    entry_lines(found);
+    all_file_lines(disk, found, space);
+}
+
+fn show_sector(nibbles: &[u8], key: [u8; 3], space: &mut [u8]) {
+    print(b"sector");
+    print_bytes(&key);
+    print(b"\n");
+    let h = stream::sector(nibbles, key[0], key[1], key[2], space);
+    answer_line(h, space);
+}
+
+fn show_nibbles(sector: &[u8], space: &mut [u8]) {
+    let h = nibble::encode_sector(sector, space);
+    byte_number(b"encoded: number", h.refusal);
+    if h.refusal == 0 {
+        content(part(space, 0, 342));
+    }
+    print(b"\n");
+}
+
+fn show_record(place: [u8; 3], words: &[u8], space: &mut [u8]) {
+    let list = Place {
+        track: Track(place[0]),
+        sector: Sector(place[1]),
+    };
+    let lock = byte_at(words, 0);
+    let name = part(words, 3, words.len());
+    print(b"record\n");
+    let h = records::file_entry_as_vec(list, place[2], lock != 0, name, word_at(words, 1), space);
+    answer_line(h, space);
+}
+
+fn show_page(input: &[u8], space: &mut [u8]) {
+    print(b"page\n");
+    let h = records::catalog_as_vec(part(input, 0, 11), part(input, 11, input.len()), space);
+    answer_line(h, space);
+}
+
+fn show_binary(input: &[u8], space: &mut [u8]) {
+    let data = part(input, 5, input.len());
+    print(b"binary\n");
+    let h = records::full_file_as_vec(
+        byte_at(input, 0),
+        word_at(input, 1),
+        word_at(input, 3),
+        data,
+        space,
+    );
+    answer_line(h, space);
+}
+
+fn show_format(input: &[u8]) {
+    let f = records::format_from_data(input);
+    byte_number(b"format: number", f.refusal);
+    if f.dos33 {
+        print(b", DOS 3.3\n");
+        return;
+    }
+    print(b", not DOS 3.3\n");
+}
+
+fn show_prologue(input: &[u8]) {
+    print_line(b"prologue", stream::recognize_prologue(input) as u64);
+}
+
+fn wide(x: u8) -> usize
+    ensures { λ r. ⌜ r < 256 ⌝ }
+{
+    x as usize
+}
+
+fn poke(bytes: &mut [u8], at: usize, v: u8) {
+    if at < bytes.len() {
+        bytes[at] = v;
+    }
+}
+
+fn digit(c: u8) -> u8
+    ensures { λ r. ⌜ r < 16 ⌝ }
+{
+    if c < 58 {
+        c % 48 % 16
+    } else {
+        (c % 16 + 9) % 16
+    }
+}
+
+fn hex(high: u8, low: u8) -> u8 {
+    16 * digit(high) + digit(low)
+}
+
+// Bytes of the six digits.
+fn digits_of(line: &[u8]) -> [u8; 3] {
+    [
+        hex(byte_at(line, 2), byte_at(line, 3)),
+        hex(byte_at(line, 4), byte_at(line, 5)),
+        hex(byte_at(line, 6), byte_at(line, 7)),
+    ]
+}
+
+fn place_of(line: &[u8]) -> usize
+    ensures { λ r. ⌜ r < 16777216 ⌝ }
+{
+    let digits = digits_of(line);
+    65536 * wide(digits[0]) + 256 * wide(digits[1]) + wide(digits[2])
+}
+
+// How many bytes stand behind the six digits.
+fn count(line: &[u8]) -> usize {
+    if line.len() < 11 {
+        return 0;
+    }
+    (line.len() - 8) / 3
+}
+
+fn byte_of(line: &[u8], k: u8) -> u8 {
+    hex(
+        byte_at(line, 9 + 3 * wide(k)),
+        byte_at(line, 10 + 3 * wide(k)),
+    )
+}
+
+fn put_byte(bytes: &mut [u8], at: usize, line: &[u8], k: u8)
+    requires { ⌜ at < 16777216 ⌝ }
+{
+    if wide(k) < count(line) {
+        poke(bytes, at + wide(k), byte_of(line, k));
+    }
+}
+
+fn put(bytes: &mut [u8], at: usize, line: &[u8])
+    requires { ⌜ at < 16777216 ⌝ }
+{
+    for k in 0..64u8 {
+        put_byte(bytes, at, line, k);
+    }
+}
+
+fn put_ramp(bytes: &mut [u8], at: usize, first: u8)
+    requires { ⌜ at < 16777216 ⌝ }
+{
+    for k in 0..256u16 {
+        poke(bytes, at + k as usize, ((first as u16 + k) % 256) as u8);
+    }
+}
+
+// The bytes behind the six digits.
+fn bytes_of(line: &[u8]) -> [u8; 64] {
+    let mut bytes = [0u8; 64];
+    put(&mut bytes, 0, line);
+    bytes
+}
+
+fn show_words(line: &[u8], space: &mut [u8]) {
+    let bytes = bytes_of(line);
+    show_record(digits_of(line), part(&bytes, 0, count(line)), space);
+}
+
+// The steps that ask.
+fn show(line: &[u8], input: &[u8], entries: &mut [u8], space: &mut [u8]) {
+    let command = byte_at(line, 0);
+    match command {
+        b'L' => show_load(input, entries, space),
+        b'K' => show_sector(input, digits_of(line), space),
+        b'E' => show_nibbles(part(input, place_of(line), 256), space),
+        b'D' => show_words(line, space),
+        b'G' => show_page(input, space),
+        b'B' => show_binary(input, space),
+        b'M' => show_prologue(input),
+        b'O' => show_format(input),
+        _ => print(b"no such step\n"),
+    }
+}
+
+fn print_title(line: &[u8]) {
+    print(line);
+    print(b"\n");
+}
+
+fn fill(input: &mut [u8], line: &[u8]) {
+    let n = 256 * wide(byte_of(line, 0)) + wide(byte_of(line, 1));
+    lists::fill_at(input, place_of(line), n, byte_of(line, 2));
+}
+
+// How many bytes are in use after a step, `used` being those before it.
+fn act(line: &[u8], input: &mut [u8], used: usize, entries: &mut [u8], space: &mut [u8]) -> usize {
+    let command = byte_at(line, 0);
+    match command {
+        b'N' => {
+            lists::fill_at(input, 0, place_of(line), byte_of(line, 0));
+            return place_of(line);
+        },
+        b'P' => put(input, place_of(line), line),
+        b'F' => fill(input, line),
+        b'U' => put_ramp(input, place_of(line), byte_of(line, 0)),
+        b'=' => print_title(line),
+        b'#' => {},
+        0 => {},
+        _ => show(line, part(input, 0, used), entries, space),
+    }
+    used
+}
+
+// The end of the line that starts at a place.
+fn line_end(script: &[u8], at: usize) -> usize {
+    let mut i: usize = at;
+    while i < script.len() {
+        if byte_at(script, i) == b'\n' {
+            return i;
+        }
+        i += 1;
+    }
+    script.len()
+}
+
+fn line_from(script: &[u8], at: usize, end: usize) -> &[u8] {
+    if at < end {
+        return part(script, at, end - at);
+    }
+    &script[0..0]
+}
+
+fn behind(script: &[u8], end: usize) -> usize {
+    if end < script.len() {
+        return end + 1;
+    }
+    script.len()
+}
+
+fn run(script: &[u8], input: &mut [u8], entries: &mut [u8], space: &mut [u8]) {
+    let mut at: usize = 0;
+    let mut used: usize = 0;
+    let mut left: u32 = 10000;
+    while left > 0 {
+        if script.len() <= at {
+            return;
+        }
+        let end = line_end(script, at);
+        used = act(line_from(script, at, end), input, used, entries, space);
+        at = behind(script, end);
+        left -= 1;
+    }
+    print(b"too many lines\n");
+}
+
+fn main() {
+    let mut script = [0u8; 65536];
+    let mut input = [0u8; 143360];
+    let mut entries = [0u8; 37000];
+    let mut space = [0u8; 143360];
+    let n = io::read_full(STDIN_FILENO, &mut script);
+    if n < 65536 {
+        run(
+            part(&script, 0, n as usize),
+            &mut input,
+            &mut entries,
+            &mut space,
+        );
+        return;
+    }
+    print(b"too long a script\n");
+}
