@@ -158,4 +158,18 @@ module _ (d : List ℕ) (x : ℕ) where
       let q : take 30 raw ≡ take 30 (drop (x + 3) d) = rw hr (take-take 30 30 (drop (x + 3) d) (omega arith)) in
       rw (hk, hw, hm, q, ht, hs, hc) refl
 
-pub ruleset entering = (entry-past, entry-read, needs)
+  -- its list and its type alone
+  pub list-past : length d ≤ x → place 0 0 ≡ entryFrom d x .list
+  list-past h = rw (List·getD-eq-default d 0 {n = x} h, List·getD-eq-default d 0 {n = x + 1} (omega arith)) refl
+
+  pub list-read : (t s : ℕ) → t ≡ getD d x 0 → s ≡ getD d (x + 1) 0 → place t s ≡ entryFrom d x .list
+  list-read t s ht hs = rw (ht, hs) refl
+
+  pub type-past : length d ≤ x → 0 ≡ entryFrom d x .kind
+  unfolding kindOf
+  type-past h = rw (List·getD-eq-default d 0 {n = x + 2} (omega arith)) refl
+
+  pub type-read : (c k : ℕ) → c ≡ getD d (x + 2) 0 → k ≡ kindOf (c % 128) → k ≡ entryFrom d x .kind
+  type-read c k hc hk = hk ∙ rw hc refl
+
+pub ruleset entering = (entry-past, entry-read, list-past, list-read, type-past, type-read, needs)

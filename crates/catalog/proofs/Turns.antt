@@ -3,14 +3,16 @@ use mathlib.Core.Path.{_≡_, refl, sym, ap, _∙_}
 use mathlib.Core.Bool.{Bool, true, false, cond, not, _&&_, _||_}
 use mathlib.Core.List.{List, [], _∷_, _++_, foldl, flatMap}
 use Prim.Native.Nat.{ℕ, suc, _+_, _*_, _-_, _<_, _≤_}
-use native.Mathlib.Nat.{add-zero, zero-add}
+use native.Mathlib.Nat.{zero-add}
+use native.Mathlib.Numerals.{add-one}
 use native.Mathlib.Omega.{arith}
-use lib.ListN.{length, getD, take, drop, length-append, List·getD-eq-default, drop-of-length-le}
-use lib.Seq.{drop-cons, take-nil}
+use lib.ListN.{length, getD, take, drop, length-append}
+use lib.Seq.{take-all, take-suc}
 use lib.Dec.{eqb}
 use borrow.Author.Tests.{lt-ltb, le-ltb, eq-eqb, ne-eqb, not-true, not-false}
 use borrow.Author.Needs.{needs}
 use Rattle.lists.specs.Select.{all, filter, among}
+use Rattle.lists.proofs.Among.{among-snoc}
 use Rattle.lists.proofs.Split.{by-lt, by-test}
 use Rattle.lists.proofs.Select.{onward, onward-next, onward-end}
 use Rattle.outcome.specs.declared.Refusal.the-variants.{BadLetter}
@@ -39,38 +41,37 @@ module _ (n : ℕ) (d : List ℕ) (p : Place) (t s : ℕ) (e : t ≡ byteOf n d 
 pub ruleset links = (last-first, last-second, needs)
 
 -- ---- a name's bytes
-among-step : (d : List ℕ) (i k : ℕ) → among 128 (take (suc k) (drop i d)) ≡ (eqb 128 (getD d i 0) || among 128 (take k (drop (suc i) d)))
-unfolding among
-among-step d i k =
-    by-lt i (length d) (λ h. rw (drop-cons d i 0 h) refl)
-    (λ h. rw (drop-of-length-le d h, drop-of-length-le d {i = suc i} (omega arith), List·getD-eq-default d 0 h, take-nil {A = ℕ} k) refl)
+-- k of the n bytes s were looked at
+pub record Letters (s : List ℕ) (n k : ℕ) (b : Bool) : Type 0 where
+  pub count : k ≤ n
+  pub long : n ≡ length s
+  pub is : b ≡ among 128 (take k s)
 
-pub record Letters (d : List ℕ) (i k : ℕ) : Type 0 where
-  pub count : k ≤ 30
-  pub is : among 128 (take 30 (drop i d)) ≡ among 128 (take (30 - k) (drop (i + k) d))
-
-module _ (d : List ℕ) (i k : ℕ) where
-  pub letters-none : Letters d i 0
-  letters-none = record { count = omega arith; is = rw (add-zero i) refl }
-
-  letters-step : Letters d i k → k < 30 → among 128 (take 30 (drop i d)) ≡ (eqb 128 (getD d (i + k) 0) || among 128 (take (30 - (k + 1)) (drop (i + (k + 1)) d)))
-  letters-step c h =
-      let e : 30 - k ≡ suc (30 - (k + 1)) = omega arith in
-      let q : i + (k + 1) ≡ suc (i + k) = omega arith in
-      c .is ∙ rw (e, q) (among-step d (i + k) (30 - (k + 1)))
-
-  module _ (c : Letters d i k) (b : ℕ) (e : b ≡ getD d (i + k) 0) where
-    pub letters-found : k < 30 → b ≡ 128 → true ≡ among 128 (take 30 (drop i d))
-    letters-found h z = rw (letters-step c h, ← e, eq-eqb 128 b (sym z)) refl
-
-    pub letters-more : k < 30 → (b ≡ 128 → ⊥) → Letters d i (k + 1)
-    letters-more h z = record { count = omega arith; is = letters-step c h ∙ rw (← e, ne-eqb 128 b (λ q. z (sym q))) refl }
-
-  pub letters-done : Letters d i k → 30 ≤ k → false ≡ among 128 (take 30 (drop i d))
+module _ (s : List ℕ) (n : ℕ) where
+  pub letters-none : n ≡ length s → Letters s n 0 false
   unfolding among
-  letters-done c h = let e : 30 - k ≡ 0 = omega arith in rw (c .is, e) refl
+  letters-none l = record { count = omega arith; long = l; is = refl }
 
-pub ruleset letters = (letters-none, letters-found, letters-more, letters-done, needs)
+  module _ (k : ℕ) (b : Bool) (c : Letters s n k b) where
+    pub letters-more : k < n → Letters s n (k + 1) (b || eqb (getD s k 0) 128)
+    letters-more h =
+        record {
+          count = omega arith;
+          long = c .long;
+          is = sym (rw (add-one k, take-suc s k 0 (omega (arith, c .long)), among-snoc 128 (getD s k 0) (take k s), ← c .is) refl);
+        }
+
+    pub letters-read : k < n → k < length s
+    letters-read h = omega (arith, c .long)
+
+    pub letters-done : n ≤ k → b ≡ among 128 s
+    letters-done h = c .is ∙ ap (among 128) (take-all k s (omega (arith, c .long)))
+
+-- the bytes are those of the disk
+pub letters-of : (d s : List ℕ) (i : ℕ) (b : Bool) → s ≡ take 30 (drop i d) → b ≡ among 128 s → b ≡ among 128 (take 30 (drop i d))
+letters-of d s i b e h = h ∙ ap (among 128) e
+
+pub ruleset letters = (letters-none, letters-more, letters-read, letters-done, letters-of, needs)
 
 -- ---- an entry
 pub valid-unused : (t : ℕ) → t ≡ 0 → false ≡ validFile t

@@ -110,20 +110,29 @@ pub fn entry_start(per: u8, p: Place, i: u8) -> usize
     sector_start(per, p) + (11 + 35 * (i as usize))
 }
 
-// 80h stands among the 30 bytes from i on.
-fn bad_letter(disk: &[u8], i: usize) -> bool
-    requires { ⌜ i < 33554432 ⌝ }
-    ensures { λ r. ⌜ r ≡ among 128 (take 30 (drop i (now (disk .entry)))) ⌝ }
+// 80h stands among the n bytes of a name. All are looked at: with 30 for n the loop becomes vector code.
+fn bad_among(raw: &[u8], n: usize) -> bool
+    requires { ⌜ n ≡ length (now raw) ⌝ }
+    ensures { λ r. ⌜ r ≡ among 128 (now (raw .entry)) ⌝ }
 {
+    let mut bad = false;
     let mut k: usize = 0;
-    while k < 30 {
-        let b = byte_at(disk, i + k);
-        if b == 128 {
-            return true;
-        }
+    while k < n {
+        bad = bad | (raw[k] == 128);
         k += 1;
     }
-    false
+    bad
+}
+
+// 80h stands among the 30 bytes from i on.
+fn bad_letter(disk: &[u8], i: usize) -> bool
+    ensures { λ r. ⌜ r ≡ among 128 (take 30 (drop i (now (disk .entry)))) ⌝ }
+{
+    let raw = part(disk, i, 30);
+    if raw.len() == 30 {
+        return bad_among(raw, 30);
+    }
+    bad_among(raw, raw.len())
 }
 
 // The entry from x on is not in use, or its name holds no 80h.
@@ -313,6 +322,34 @@ pub fn parse_file_entry(disk: &[u8], at: usize) -> FileEntry
         name: name,
         count: count,
     }
+}
+
+// The list of the entry from `at` on.
+pub fn entry_list(disk: &[u8], at: usize) -> Place
+    ensures { λ r. ⌜ r ≡ entryFrom (now (disk .entry)) at .list ⌝ }
+{
+    if disk.len() <= at {
+        return Place {
+            track: Track(0),
+            sector: Sector(0),
+        };
+    }
+    let t = byte_at(disk, at);
+    let s = byte_at(disk, at + 1);
+    Place {
+        track: Track(t),
+        sector: Sector(s),
+    }
+}
+
+// Its type.
+pub fn entry_type(disk: &[u8], at: usize) -> u8
+    ensures { λ r. ⌜ r ≡ entryFrom (now (disk .entry)) at .kind ⌝ }
+{
+    if disk.len() <= at {
+        return 0;
+    }
+    file_type(byte_at(disk, at + 2) % 128)
 }
 
 // An entry of zeros.

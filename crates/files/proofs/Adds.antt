@@ -24,7 +24,7 @@ use Rattle.files.specs.declared.Choice.{Choice}
 use Rattle.files.specs.declared.Totals.{Totals}
 use Rattle.files.specs.Threads.{noThread, followed, sizeOf}
 use Rattle.files.specs.Contents.{listWalk, lists}
-use Rattle.files.specs.Totals.{choice, noChoice, noTotals, Within, Bounded, Linked, withPage, Ranged, Paged, picked, chosen, withThread, withEntry, Joined, Entered, Added}
+use Rattle.files.specs.Totals.{choice, noChoice, noTotals, Within, Bounded, Linked, withPage, Ranged, Paged, picked, withLists, withEntry, Joined, Entered, Added}
 
 -- ---- a file's size
 module _ (n : ℕ) (d : List ℕ) (kind : ℕ) (t : Thread) where
@@ -56,11 +56,19 @@ same-is b x l y n e q = rw e at q
 pub ruleset nothings = (no-choice-is, no-totals-is, same-is, needs)
 
 -- ---- the choice
-pub picks-name : (b r : Bool) (z : Bool) (j k : ℕ) → b ≡ true → r ≡ z → r ≡ cond b z (eqb j k)
-picks-name b r z j k e q = rw e q
+-- the shown name is the front of its letters
+pub front-name : (raw : List ℕ) → take (nameOf raw .length) (nameOf raw .letters) ≡ shown raw
+unfolding padded
+front-name raw = take-at (shown raw) _ (length (shown raw)) refl
 
-pub picks-number : (b z : Bool) (j k : ℕ) → b ≡ false → eqb j k ≡ cond b z (eqb j k)
-picks-number b z j k e = rw e refl
+module _ (d : List ℕ) (x : ℕ) (b : Bool) (w : List ℕ) (j k : ℕ) where
+  pub picks-name : (f : FileEntry) (r : Bool) → b ≡ true → f ≡ fileEntry (entryFrom d x) → r ≡ same w (take (f .name .length) (f .name .letters))
+      → r ≡ cond b (same w (shown (entryFrom d x .raw))) (eqb j k)
+  picks-name f r e a q =
+      q ∙ ap (λ (i : FileEntry). same w (take (i .name .length) (i .name .letters))) a ∙ ap (same w) (front-name (entryFrom d x .raw)) ∙ sym (rw e refl)
+
+  pub picks-number : b ≡ false → eqb j k ≡ cond b (same w (shown (entryFrom d x .raw))) (eqb j k)
+  picks-number e = rw e refl
 
 pub choose-new : (b : Bool) (c : Choice) (l : Place) (m : ℕ) (h : Thread) → b ≡ true → choice l m h ≡ cond b (choice l m h) c
 choose-new b c l m h e = rw e refl
@@ -71,11 +79,6 @@ choose-old b c l m h e = rw e refl
 pub ruleset chooses = (picks-name, picks-number, choose-new, choose-old, needs)
 
 -- ---- one entry more
--- the shown name is the front of its letters
-pub front-name : (raw : List ℕ) → take (nameOf raw .length) (nameOf raw .letters) ≡ shown raw
-unfolding padded
-front-name raw = take-at (shown raw) _ (length (shown raw)) refl
-
 module _ (n : ℕ) (d : List ℕ) (b : Bool) (k : ℕ) (w : List ℕ) (t : Totals) (c : Within t 100000) where
   stays : Bounded t t
   stays = record { grows = λ m h. record { entries = omega (arith, h .entries); links = omega (arith, h .links); blocks = omega (arith, h .blocks) } }
@@ -83,27 +86,18 @@ module _ (n : ℕ) (d : List ℕ) (b : Bool) (k : ℕ) (w : List ℕ) (t : Total
   zeros : (j : ℕ) → Bounded t (noTotals j)
   zeros j = record { grows = λ m h. record { entries = omega arith; links = omega arith; blocks = omega arith } }
 
-  module _ (f : FileEntry) (h : Thread) where
+  module _ (l : Place) (kind : ℕ) (pick : Bool) (h : Thread) where
     -- its lists refuse
-    pub join-refused : (h .refusal ≡ 0 → ⊥) → (r : Totals) → r ≡ noTotals (h .refusal) → Joined n d b k w t f h r
-    join-refused m r i = record { is = λ e a. i ∙ sym (rw (ne-eqb _ _ m) refl); bound = rw i (zeros (h .refusal)) }
+    pub join-refused : (h .refusal ≡ 0 → ⊥) → (r : Totals) → r ≡ noTotals (h .refusal) → Joined n d t l kind pick h r
+    join-refused m r i = record { is = i ∙ sym (rw (ne-eqb _ _ m) refl); bound = rw i (zeros (h .refusal)) }
 
     -- they do not
-    pub join-more : h .refusal ≡ 0 → (s : ℕ) (pick : Bool) (o : Choice) → s ≡ sizeOf n d (f .«file_type») h → s ≤ 65538
-        → pick ≡ cond b (same w (take (f .name .length) (f .name .letters))) (eqb (t .entries) k)
-        → o ≡ cond pick (choice (f .list) (f .«file_type») h) (t .choice) → h .lists < 65536
-        → Joined n d b k w t f h (record { refusal = 0; entries = t .entries + 1; links = t .links + h .lists; blocks = t .blocks + (1 + (s + 253) / 254); choice = o })
-    join-more m s pick o i l p q r =
+    pub join-more : h .refusal ≡ 0 → (s : ℕ) (o : Choice) → s ≡ sizeOf n d kind h → s ≤ 65538 → o ≡ cond pick (choice l kind h) (t .choice) → h .lists < 65536
+        → Joined n d t l kind pick h (record { refusal = 0; entries = t .entries + 1; links = t .links + h .lists; blocks = t .blocks + (1 + (s + 253) / 254); choice = o })
+    join-more m s o i q p r =
         record {
-          is = λ e a.
-              let p′ : pick ≡ picked n d b k w (t .entries) e =
-              p ∙ ap (λ (j : FileEntry). cond b (same w (take (j .name .length) (j .name .letters))) (eqb (t .entries) k)) a
-              ∙ ap (λ (j : List ℕ). cond b (same w j) (eqb (t .entries) k)) (front-name (e .raw)) in
-              let o′ : o ≡ chosen n d b k w (t .choice) (t .entries) e h =
-              q ∙ ap (λ (j : FileEntry). cond pick (choice (j .list) (j .«file_type») h) (t .choice)) a
-              ∙ ap (λ (j : Bool). cond j (choice (e .list) (e .kind) h) (t .choice)) p′ in
-              let i′ : s ≡ sizeOf n d (e .kind) h = i ∙ ap (λ (j : FileEntry). sizeOf n d (j .«file_type») h) a in
-              (λ j. record { refusal = 0; entries = t .entries + 1; links = t .links + h .lists; blocks = t .blocks + (1 + (i′ j + 253) / 254); choice = o′ j })
+          is =
+              (λ j. record { refusal = 0; entries = t .entries + 1; links = t .links + h .lists; blocks = t .blocks + (1 + (i j + 253) / 254); choice = p j })
               ∙ sym (rw (eq-eqb _ _ m) refl);
           bound =
               record {
@@ -121,11 +115,11 @@ module _ (n : ℕ) (d : List ℕ) (b : Bool) (k : ℕ) (w : List ℕ) (t : Total
     join-blocks s l = omega (arith, c .blocks)
 
     -- what was read is the entry from y on
-    pub enter-is : (y : ℕ) (r : Totals) → f ≡ fileEntry (entryFrom d y) → h ≡ followed n d (listWalk n d (f .list)) → Joined n d b k w t f h r
-        → Entered n d b k w t y r
-    enter-is y r a u j =
-        let v : h ≡ followed n d (lists n d (entryFrom d y)) = u ∙ ap (λ (i : FileEntry). followed n d (listWalk n d (i .list))) a in
-        record { is = j .is (entryFrom d y) a ∙ ap (withThread n d b k w t (entryFrom d y)) v; bound = j .bound }
+    pub enter-is : (y : ℕ) (r : Totals) → l ≡ entryFrom d y .list → kind ≡ entryFrom d y .kind → h ≡ followed n d (listWalk n d l)
+        → pick ≡ picked n d b k w (t .entries) (entryFrom d y) → Joined n d t l kind pick h r → Entered n d b k w t y r
+    enter-is y r a u v p j =
+        let h′ : h ≡ followed n d (lists n d (entryFrom d y)) = v ∙ ap (λ (i : Place). followed n d (listWalk n d i)) a in
+        record { is = j .is ∙ (λ i. withLists n d t (a i) (u i) (p i) (h′ i)); bound = j .bound }
 
   module _ (y : ℕ) where
     -- a refusal stands

@@ -5,6 +5,7 @@ ghost use mathlib.Core.Bool.{cond};
 ghost use lib.Dec.{eqb};
 ghost use Rattle.outcome.specs.Outcome.{Hands, leftBy};
 ghost use Rattle.catalog.specs.Listing.{Ready};
+ghost use Rattle.catalog.specs.Catalog.{shown, entryFrom};
 ghost use Rattle.disk.specs.Disk.{place, byteOf, bytesOf};
 ghost use Rattle.files.specs.Contents.{pairAt, pairsOf, wholeLink, listWalk, pairBytes};
 ghost use lib.ListN.{take};
@@ -14,9 +15,10 @@ ghost use Rattle.files.specs.Survey.{survey, noSurvey, surveyed, fetched
 ghost use Rattle.files.specs.Copies.{Copied, Roomy, Whole, CopiedAll, Kept, listBytes, walkBytes, fileBytes, startOf};
 ghost use Rattle.files.specs.Chosen.{walkPlaces, fileOfNumber, listsOfNumber};
 ghost use Rattle.files.specs.Threads.{headOf, noThread, endThread, runOf, followed, sizeOf};
-use catalog::FileEntry;
 use catalog::Name;
+use catalog::entry_list;
 use catalog::entry_start;
+use catalog::entry_type;
 use catalog::first_page;
 use catalog::last_page;
 use catalog::parse_file_entry;
@@ -290,12 +292,13 @@ fn same_name(name: &[u8], shown: Name) -> bool
     same(name, part(&letters, 0, n))
 }
 
-// Entry number j with that shown name is the one asked for: by its name, or by its number.
-fn picks(named: bool, number: u64, name: &[u8], j: u32, shown: Name) -> bool
-    ensures { λ r. ⌜ r ≡ cond named (same (now (name .entry)) (take (shown .length) (shown .letters))) (eqb j number) ⌝ }
+// The entry from x on, which is number j, is the one asked for: by its name, which is not read else, or by its number.
+fn picks(disk: &[u8], x: usize, named: bool, number: u64, name: &[u8], j: u32) -> bool
+    ensures { λ r. ⌜ r ≡ cond named (same (now (name .entry)) (shown (entryFrom (now (disk .entry)) x .raw))) (eqb j number) ⌝ }
 {
     if named {
-        return same_name(name, shown);
+        let e = parse_file_entry(disk, x);
+        return same_name(name, e.name);
     }
     j as u64 == number
 }
@@ -315,29 +318,24 @@ fn choose(old: Choice, pick: bool, list: Place, kind: u8, h: Thread) -> Choice
     old
 }
 
-// The totals with one entry more, h being what its lists come to.
+// The totals with one entry more, of that first list and type; h is what its lists come to.
 fn add_thread(
     disk: &[u8],
     per: u8,
     t: Totals,
-    e: FileEntry,
+    list: Place,
+    kind: u8,
+    pick: bool,
     h: Thread,
-    named: bool,
-    number: u64,
-    name: &[u8],
 ) -> Totals
     requires { ⌜ Within t 100000 ⌝ }
-    ensures { λ r. ⌜ Joined per (now (disk .entry)) named number (now (name .entry)) t e h r ⌝ }
+    ensures { λ r. ⌜ Joined per (now (disk .entry)) t list kind pick h r ⌝ }
 {
     if h.refusal != 0 {
         return no_totals(h.refusal);
     }
-    let list = e.list;
-    let kind = e.file_type;
-    let shown = e.name;
     let old = t.choice;
     let size = file_size(disk, per, kind, h) as u64;
-    let pick = picks(named, number, name, t.entries, shown);
     Totals {
         refusal: 0,
         entries: t.entries + 1,
@@ -360,10 +358,11 @@ fn add_live(
     requires { ⌜ Within t 100000 ⌝ }
     ensures { λ r. ⌜ Entered per (now (disk .entry)) named number (now (name .entry)) t x r ⌝ }
 {
-    let e = parse_file_entry(disk, x);
-    let list = e.list;
+    let list = entry_list(disk, x);
+    let kind = entry_type(disk, x);
     let h = build_file(disk, per, list);
-    add_thread(disk, per, t, e, h, named, number, name)
+    let pick = picks(disk, x, named, number, name, t.entries);
+    add_thread(disk, per, t, list, kind, pick, h)
 }
 
 // The same, where it is in use; the first refusal stands.

@@ -68,7 +68,7 @@ module _ (d : List ℕ) (p : Place) (i : ℕ) where
       let l : i < length (takeWhile isPair (map (pairAt 16 d p) (below 121))) = rw (e, length-map) at h in
       let m : i < 121 = omega (arith, takeWhile-short isPair (map (pairAt 16 d p) (below 121)), length-onward (pairAt 16 d p) 121) in
       let q : getD ps i z ≡ pairAt 16 d p i =
-          rw e (takeWhile-getD isPair z (map (pairAt 16 d p) (below 121)) i l ∙ List·getD-map (pairAt 16 d p) (below 121) i 0 ∙ ap (pairAt 16 d p) (getD-tab (λ k. k) 121 i 0 m)) in
+      rw e (takeWhile-getD isPair z (map (pairAt 16 d p) (below 121)) i l ∙ List·getD-map (pairAt 16 d p) (below 121) i 0 ∙ ap (pairAt 16 d p) (getD-tab (λ k. k) 121 i 0 m)) in
       sym (pair-here d p i (pairAt 16 d p i) m refl) ∙ ap asPair (sym q) ∙ sym (List·getD-map asPair ps i z)
 
   given-pairs : (ps : List Place) → pairsAt 16 d p ≡ given ps → ps ≡ pairsOf 16 d p

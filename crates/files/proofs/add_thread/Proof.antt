@@ -1,5 +1,4 @@
-use native.Mathlib.Omega.{arith}
-use Rattle.files.proofs.Adds.{joinings, join-more}
+use Rattle.files.proofs.Adds.{joinings}
 use Rattle.files.proofs.add_thread.Statement.{statement}
 use Rattle.files.proofs.add_thread.Tie as tie
 
@@ -11,13 +10,12 @@ add-thread-spec =
     (λ c. search joinings)  -- returns
     (λ c κs. search joinings)  -- file-size-requires
     (λ c. search joinings)  -- cast-size
-    (λ c κs. search joinings)  -- picks-requires
+    (λ c. search joinings)  -- add-t11
+    (λ c. search joinings)  -- cast-t12
+    (λ c. search joinings)  -- add-t13
+    (λ c. search joinings)  -- add-t14
+    (λ c. search joinings)  -- add-t16
     (λ c. search joinings)  -- add-t17
-    (λ c. search joinings)  -- cast-t18
-    (λ c. search joinings)  -- add-t19
-    (λ c. search joinings)  -- add-t20
-    (λ c. search joinings)  -- add-t22
-    (λ c. search joinings)  -- add-t23
     (λ c κs. search joinings)  -- choose-requires
-    (λ c. join-more _ _ _ _ _ _ (c .before .before .before .before .before .before .before .before .before .before .before .before .before .before .pre) _ _ (c .before .before .before .before .before .before .before .before .before .before .if1 .left) _ _ _ (c .before .before .before .before .before .before .file-size .ensures .0) (c .before .before .before .before .before .before .file-size .ensures .1) (c .before .before .before .before .before .picks .ensures) (c .choose .ensures) (omega arith))  -- returns-2
+    (λ c. search joinings)  -- returns-2
     )
