@@ -19,6 +19,7 @@ use Rattle.archive.specs.Blocks.{entryBytes}
 use Rattle.writer.specs.declared.Mark.{Mark}
 use Rattle.writer.specs.Passes.{Pass, passOf, sizeBy, startBy, statedIn, madeAt, headAt, fileWith, stepped, Made}
 use Rattle.writer.proofs.Pieces.{entry-mod}
+use Rattle.writer.proofs.Emits.{emit-written}
 
 -- ---- the numbers in an entry block
 pub entry-last : (a t : ℕ) → a ≡ t → 0 ≡ cond (eqb a t) 0 a % 65536
@@ -46,7 +47,7 @@ head-made t b k size e u v x r p q h z =
 pub emit-of : (w : Bool) (a : List ℕ) (s : Pass) (m : Mark) (o o′ : List ℕ) (r : Mark) (y z : List ℕ) → y ≡ z → Made (stepped w a s y) 1 m o o′ r → Made (stepped w a s z) 1 m o o′ r
 emit-of w a s m o o′ r y z e h = subst (λ (x : List ℕ). Made (stepped w a s x) 1 m o o′ r) e h
 
-pub ruleset heads = (head-made, emit-of, needs)
+pub ruleset heads = (head-made, emit-of, emit-written, needs)
 
 -- ---- a file's size
 pub stated-is : (d ns : List ℕ) (n v : ℕ) → n ≡ getD ns 0 0 → v ≡ wordAt d (n + 2) → v ≡ statedIn d ns

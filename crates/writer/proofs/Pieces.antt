@@ -1,17 +1,18 @@
 -- A data block, made of pieces of two sectors. Assumes nothing.
-use mathlib.Core.Path.{_≡_, refl, sym, ap, _∙_}
+use mathlib.Core.Path.{_≡_, refl, sym, ap, subst, _∙_}
 use mathlib.Core.List.{List, [], _∷_, _++_, append-assoc}
 use Prim.Native.Nat.{ℕ, _+_, _-_, _*_, _/_, _%_, _<_, _≤_, min, _^_}
 use native.Mathlib.Omega.{arith}
 use native.Mathlib.Nat.{mod-mod}
 use lib.Arith.{mod-mul, digits-mod, digits-div}
 use lib.ListN.{List·getD-eq-default, length, length-take, take, drop, getD, replicate, length-append, length-replicate}
-use borrow.Author.Tests.{eq-eqb, ne-eqb}
+use borrow.Author.Tests.{eq-eqb, ne-eqb, lt-leb}
 use borrow.Author.Needs.{needs}
 use Rattle.lists.specs.Fill.{placed, padded}
 use Rattle.lists.specs.Words.{le2, le3}
-use Rattle.lists.proofs.Laws.{drop-zeros}
-use Rattle.lists.proofs.Put.{Put, placed-put, put-more, put-front}
+use Rattle.lists.proofs.Laws.{length-padded}
+use Rattle.lists.proofs.Placed.{placed-fits}
+use Rattle.lists.proofs.Put.{Put, placed-put, put-more, put-whole}
 use Rattle.files.specs.Contents.{File}
 use Rattle.archive.specs.Archive.{dataBlock, entryBlock}
 use Rattle.writer.specs.Passes.{headOf, tailOf, nextData, madeAt}
@@ -44,23 +45,46 @@ module _ (d ns : List ℕ) (from size : ℕ) where
 
 pub ruleset pieces = (head-is, tail-is, tail-less, needs)
 
--- a block of zeros, with a number and two pieces put in
-pub data-made : (next : ℕ) (x y z z₁ z₂ o : List ℕ) → z ≡ replicate 256 0 → length x + length y ≤ 254 → z₁ ≡ placed 0 (le2 next) z → z₂ ≡ placed 2 x z₁
-    → o ≡ placed (2 + length x) y z₂ → o ≡ dataBlock next (x ++ y)
-unfolding dataBlock padded
-data-made next x y z z₁ z₂ o e l p q r =
-    let n : length z ≡ 256 = rw e (length-replicate {A = ℕ} 256 0) in
-    let a : Put 0 (le2 next) z z₁ = placed-put p (omega arith) in
-    let b : Put 2 x z₁ z₂ = placed-put q (omega (arith, a .long)) in
-    let c : Put 0 (le2 next ++ x) z z₂ = put-more a b refl (omega arith) in
-    let f : Put (2 + length x) y z₂ o = placed-put r (omega (arith, c .long)) in
-    let g : Put 0 ((le2 next ++ x) ++ y) z o = put-more c f (rw length-append (omega arith)) (omega (arith, c .long)) in
-    let i : 256 - length ((le2 next ++ x) ++ y) ≡ 254 - length (x ++ y) = rw (length-append, length-append, length-append) (omega arith) in
-    let k : drop (length ((le2 next ++ x) ++ y)) z ≡ replicate (254 - length (x ++ y)) 0 =
-    ap (drop (length ((le2 next ++ x) ++ y))) e ∙ drop-zeros (length ((le2 next ++ x) ++ y)) 256 ∙ rw i refl in
-    put-front g ∙ ap (λ (t : List ℕ). ((le2 next ++ x) ++ y) ++ t) k ∙ refl
+-- a data block is 256 bytes
+length-data : (next : ℕ) (x y : List ℕ) → length x + length y ≤ 254 → length (dataBlock next (x ++ y)) ≡ 256
+unfolding dataBlock
+length-data next x y l =
+    let p : length (padded 254 (x ++ y)) ≡ 254 = length-padded 254 (x ++ y) (rw length-append l) in
+    rw (length-append, p) refl
 
-pub ruleset datas = (data-made, needs)
+-- a number, two pieces and zeros put in one behind the other
+module _ (next : ℕ) (x y o : List ℕ) (at : ℕ) where
+  pub data-short : length o < at + 256 → length x + length y ≤ 254 → o ≡ placed at (dataBlock next (x ++ y)) o
+  unfolding placed
+  data-short h l = let n = length-data next x y l in sym (rw (n, lt-leb _ _ h) refl)
+
+  pub data-put : (z₁ z₂ z₃ z₄ : List ℕ) → at + 256 ≤ length o → length x + length y ≤ 254 → z₁ ≡ placed at (le2 next) o → z₂ ≡ placed (at + 2) x z₁
+      → z₃ ≡ placed (at + 2 + length x) y z₂ → z₄ ≡ placed (at + 2 + length x + length y) (replicate (254 - (length x + length y)) 0) z₃
+      → z₄ ≡ placed at (dataBlock next (x ++ y)) o
+  unfolding dataBlock padded
+  data-put z₁ z₂ z₃ z₄ h l p q r s =
+      let zs : List ℕ = replicate (254 - (length x + length y)) 0 in
+      let n : length zs ≡ 254 - (length x + length y) = length-replicate {A = ℕ} (254 - (length x + length y)) 0 in
+      let a : Put at (le2 next) o z₁ = placed-put p (omega arith) in
+      let b : Put (at + 2) x z₁ z₂ = placed-put q (omega (arith, a .long)) in
+      let c : Put at (le2 next ++ x) o z₂ = put-more a b refl (omega arith) in
+      let f : Put (at + 2 + length x) y z₂ z₃ = placed-put r (omega (arith, c .long)) in
+      let g : Put at ((le2 next ++ x) ++ y) o z₃ = put-more c f (rw length-append (omega arith)) (omega arith) in
+      let i : Put (at + 2 + length x + length y) zs z₃ z₄ = placed-put s (omega (arith, g .long, n)) in
+      let k : Put at (((le2 next ++ x) ++ y) ++ zs) o z₄ = put-more g i (rw (length-append, length-append) (omega arith)) (omega arith) in
+      let t : length (((le2 next ++ x) ++ y) ++ zs) ≡ 256 = rw (length-append, length-append, length-append, n) (omega arith) in
+      let v : ((le2 next ++ x) ++ y) ++ zs ≡ le2 next ++ padded 254 (x ++ y) = rw length-append refl in
+      subst (λ (w : List ℕ). z₄ ≡ placed at w o) v (placed-fits at (((le2 next ++ x) ++ y) ++ zs) o z₄ (omega arith) (omega (arith, t)) (k .is))
+
+-- into 256 zeros
+pub data-made : (next : ℕ) (x y z o : List ℕ) → z ≡ replicate 256 0 → length x + length y ≤ 254 → o ≡ placed 0 (dataBlock next (x ++ y)) z
+    → o ≡ dataBlock next (x ++ y)
+data-made next x y z o e l p =
+    let n : length z ≡ 256 = rw e (length-replicate {A = ℕ} 256 0) in
+    let k : length (dataBlock next (x ++ y)) ≡ 256 = length-data next x y l in
+    put-whole (placed-put p (omega (arith, n, k))) (k ∙ sym n)
+
+pub ruleset datas = (data-short, data-put, data-made, needs)
 
 -- ---- a data block by its number
 module _ (k b j : ℕ) where
@@ -109,7 +133,11 @@ module _ (d ns : List ℕ) (start size k b j : ℕ) (n : ℕ) (e : n ≡ min 254
     unfolding madeAt
     make-is v r p q = q ∙ rw (p, h, t, e) (data-mod (nextData k b j) _)
 
+    -- .. and put in its place
+    pub make-put : (v at : ℕ) (o o′ : List ℕ) → v ≡ nextData k b j % 65536 → o′ ≡ placed at (dataBlock v (x ++ y)) o → o′ ≡ placed at (madeAt d ns start size k b j) o
+    make-put v at o o′ p q = q ∙ ap (λ (w : List ℕ). placed at w o) (make-is v (dataBlock v (x ++ y)) p refl)
+
 pub length-at : (x y : List ℕ) → x ≡ y → length x ≡ length y
 length-at x y e = ap length e
 
-pub ruleset makings = (make-short, make-is, length-at, needs)
+pub ruleset makings = (make-short, make-is, make-put, length-at, needs)

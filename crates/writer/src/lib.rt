@@ -5,7 +5,7 @@ ghost use mathlib.Core.List.{List, _++_, _∷_, [], map, foldl};
 ghost use Prim.Native.Nat.{ℕ, _+_, _-_, _*_, _%_, _<_, _≤_, min};
 ghost use lib.Dec.{eqb};
 ghost use lib.ListN.{length, getD, take, drop};
-ghost use Rattle.lists.specs.Fill.{below};
+ghost use Rattle.lists.specs.Fill.{placed, below};
 ghost use Rattle.disk.specs.Disk.{sectors};
 ghost use Rattle.catalog.specs.Catalog.{entryFrom, entriesOf, firstPage};
 ghost use Rattle.files.specs.Copies.{cutOf, Copied, Roomy, Whole, CopiedAll, listOf, walkOf};
@@ -32,6 +32,7 @@ use files::parse_track_sector_pair;
 use files::survey;
 use lists::byte_at;
 use lists::copy_at;
+use lists::fill_at;
 use lists::part;
 use lists::put_word;
 use lists::same;
@@ -163,15 +164,28 @@ fn tail_piece<'a>(
     part(disk, n, size - before)
 }
 
-// A data block of two pieces.
+// Puts a data block of two pieces into out from `at` on; where it does not fit, out stays as it is.
+fn put_data(next: u16, head: &[u8], tail: &[u8], out: &mut [u8], at: usize)
+    requires { ⌜ (length (now head) + length (now tail) ≤ 254) × (at ≤ 5120000000) ⌝ }
+    ensures { λ _. ⌜ now (out .exit) ≡ placed at (dataBlock next (now (head .entry) ++ now (tail .entry))) (now (out .entry)) ⌝ }
+{
+    if out.len() < at + 256 {
+        return;
+    }
+    put_word(out, at, next);
+    copy_at(head, out, at + 2);
+    let end = at + 2 + head.len();
+    copy_at(tail, out, end);
+    fill_at(out, end + tail.len(), 254 - (head.len() + tail.len()), 0);
+}
+
+// The same as a block by itself.
 fn data_block(next: u16, head: &[u8], tail: &[u8]) -> [u8; 256]
     requires { ⌜ length (now head) + length (now tail) ≤ 254 ⌝ }
     ensures { λ r. ⌜ r ≡ dataBlock next (now (head .entry) ++ now (tail .entry)) ⌝ }
 {
     let mut block = [0u8; 256];
-    put_word(&mut block, 0, next);
-    copy_at(head, &mut block, 2);
-    copy_at(tail, &mut block, 2 + head.len());
+    put_data(next, head, tail, &mut block, 0);
     block
 }
 
@@ -215,7 +229,29 @@ fn make_data(
     data_block(next_data(k, first, j), head, tail)
 }
 
-// Makes data block j of a file and emits it.
+// Puts that block into out from `at` on.
+fn write_data(
+    disk: &[u8],
+    places: &[u32],
+    start: usize,
+    size: usize,
+    k: u32,
+    first: u32,
+    j: u32,
+    out: &mut [u8],
+    at: usize,
+)
+    requires { ⌜ (254 * j ≤ size) × (first + j ≤ 20000000) × (start ≤ 4) × (size ≤ 65792) × (at ≤ 5120000000) ⌝ }
+    ensures { λ _. ⌜ now (out .exit) ≡ placed at (madeAt (now (disk .entry)) (now (places .entry)) start size k first j) (now (out .entry)) ⌝ }
+{
+    let from = start + 254 * (j as usize);
+    let n = data_size(size, j);
+    let head = head_piece(disk, places, from, n);
+    let tail = tail_piece(disk, places, from, n, head.len());
+    put_data(next_data(k, first, j), head, tail, out, at);
+}
+
+// Writes data block j of a file in its place, or makes it and compares.
 fn emit_block(
     write: bool,
     archive: &[u8],
@@ -232,6 +268,14 @@ fn emit_block(
     requires { ⌜ (254 * j ≤ size) × (first + j ≤ 20000000) × (start ≤ 4) × (size ≤ 65792) × (m .block ≤ 20000000) ⌝ }
     ensures { λ r. ⌜ Made (stepped write (now (archive .entry)) (passOf m (now (out .entry))) (madeAt (now (disk .entry)) (now (places .entry)) start size k first j)) 1 m (now (out .entry)) (now (out .exit)) r ⌝ }
 {
+    if write {
+        let at = 256 * (m.block as usize);
+        write_data(disk, places, start, size, k, first, j, out, at);
+        return Mark {
+            block: m.block + 1,
+            good: m.good,
+        };
+    }
     let block = make_data(disk, places, start, size, k, first, j);
     emit(write, archive, &block, m, out)
 }
