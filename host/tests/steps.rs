@@ -178,6 +178,7 @@ fn blocks_that_no_step_gave() {
         (0, vec![1, 0, 0, 0, 0, 0, 0, 0])
     );
     assert_eq!(call(dos33_archive_entry, &archive, 2, 8), (0, vec![0; 8]));
+    assert!(Archive::open(&archive).unwrap().entry(2).is_none());
     // No archive any more: the step has no 13.
     archive[3] = 2;
     assert_eq!(
