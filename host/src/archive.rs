@@ -224,7 +224,7 @@ impl<'a> ArchiveEntry<'a> {
 
     /// The data, copied into one piece.
     pub fn to_vec(&self) -> Vec<u8> {
-        let mut all = Vec::new();
+        let mut all = Vec::with_capacity(self.length);
         self.data().for_each(|part| all.extend_from_slice(part));
         all
     }

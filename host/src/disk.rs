@@ -81,7 +81,7 @@ impl<'a> Disk<'a> {
     pub fn catalog(&self) -> Result<Vec<CatalogEntry>, Refusal> {
         let d = self.bytes();
         // SAFETY: slices of this function, the written ones its own.
-        let roll = lend::bytes(CATALOG_MOST, |o, n, l| unsafe {
+        let roll = lend::space(CATALOG_MOST, |o, n, l| unsafe {
             raw::dos33_catalog(d.as_ptr(), d.len(), o, n, l)
         })?;
         Ok(roll.chunks_exact(37).map(entry).collect())
@@ -144,7 +144,7 @@ impl<'a> Disk<'a> {
     pub fn files(&self) -> Result<Vec<File>, Refusal> {
         let entries = self.catalog()?;
         let file = |entry, bytes| File { entry, bytes };
-        match self.archive() {
+        match self.write_archive() {
             Ok(archive) => {
                 let steps = Archive::written(&archive).entries();
                 let all = entries.into_iter().zip(steps);
@@ -181,7 +181,7 @@ impl<'a> Disk<'a> {
     pub fn lists(&self, index: usize) -> Result<Vec<Location>, Refusal> {
         let d = self.bytes();
         // SAFETY: as in `catalog`.
-        let run = lend::bytes(LISTS_MOST, |o, n, l| unsafe {
+        let run = lend::space(LISTS_MOST, |o, n, l| unsafe {
             raw::dos33_lists(d.as_ptr(), d.len(), index as u64, o, n, l)
         })?;
         Ok(locations(&run))
@@ -194,7 +194,7 @@ impl<'a> Disk<'a> {
     pub fn pairs(&self, track: Track, sector: Sector) -> Result<Vec<Location>, Refusal> {
         let d = self.bytes();
         // SAFETY: as in `catalog`.
-        let run = lend::bytes(PAIRS_MOST, |o, n, l| unsafe {
+        let run = lend::space(PAIRS_MOST, |o, n, l| unsafe {
             raw::dos33_pairs(d.as_ptr(), d.len(), track.0, sector.0, o, n, l)
         })?;
         Ok(locations(&run))
@@ -314,9 +314,16 @@ impl<'a> Disk<'a> {
     /// # Errors
     /// 1 to 6, 7.
     pub fn archive(&self) -> Result<Vec<u8>, Refusal> {
+        let mut bytes = self.write_archive()?;
+        bytes.shrink_to_fit();
+        Ok(bytes)
+    }
+
+    // The archive, with the room behind it that was lent.
+    fn write_archive(&self) -> Result<Vec<u8>, Refusal> {
         let d = self.bytes();
         // SAFETY: as in `catalog`.
-        lend::bytes(ARCHIVE_MOST, |o, n, l| unsafe {
+        lend::space(ARCHIVE_MOST, |o, n, l| unsafe {
             raw::dos33_archive_write(d.as_ptr(), d.len(), o, n, l)
         })
     }
