@@ -4,7 +4,8 @@
  * Duties of the caller, for every function:
  *   - each pointer is valid for its length, and not null, even where the length is 0;
  *   - `length` points to one uint64_t; the lengths of `fields` and `run` are in elements;
- *   - what is lent to be written (`out`, `length`, `fields`, `run`) overlaps nothing else that is lent.
+ *   - what is lent to be written (`out`, `length`, `fields`, `run`) overlaps nothing else that is
+ *     lent.
  * There is no other: any bytes and any numbers may be handed in.
  *
  * The result is 0 for accepted, or the number of a refusal (below). Only
@@ -19,9 +20,9 @@
  * Two costs:
  *   - Stack: dos33_archive_open and dos33_archive_entry go as deep as the archive has blocks. Under
  *     352 KiB were measured for 4,096 blocks, and under 48 KiB for every other function.
- *   - Time: dos33_archive_entry goes through all of the archive, dos33_archive_step through one block;
- *     dos33_file, dos33_fetch and dos33_lists judge every file of the disk. For all files at once:
- *     dos33_archive_write, dos33_archive_open, then dos33_archive_step entry by entry.
+ *   - Time: dos33_archive_entry goes through all of the archive, dos33_archive_step looks at one
+ *     block. dos33_file, dos33_fetch and dos33_lists judge every file of the disk; for all files at
+ *     once: dos33_archive_write, dos33_archive_open, then dos33_archive_step entry by entry.
  */
 #ifndef DOS33_H
 #define DOS33_H
