@@ -63,7 +63,10 @@ fn main() {
     };
     // A copy, so that emptying the repository's `target` takes nothing away from what cargo has built.
     if let Err(e) = fs::copy(&library, out.join("libhost.a")) {
-        stop(&format!("{} cannot be read: {e}", library.display()));
+        stop(&format!(
+            "{} cannot be read: {e}. `rt staticlib host` at the repository's top makes target/staticlib/libhost.a.",
+            library.display()
+        ));
     }
     println!("cargo:rustc-link-search=native={}", out.display());
     println!("cargo:rustc-link-lib=static=host");

@@ -3,20 +3,26 @@
  *
  * Duties of the caller, for every function:
  *   - each pointer is valid for its length, and not null, even where the length is 0;
- *   - `length` points to one uint64_t; the length of `fields` is in elements;
- *   - what is lent to be written (`out`, `length`, `fields`) overlaps nothing else that is lent.
+ *   - `length` points to one uint64_t; the lengths of `fields` and `run` are in elements;
+ *   - what is lent to be written (`out`, `length`, `fields`, `run`) overlaps nothing else that is
+ *     lent.
  * There is no other: any bytes and any numbers may be handed in.
  *
  * The result is 0 for accepted, or the number of a refusal (below). Only
  * dos33_recognize_prologue gives something else.
  *   - Under a refusal nothing lent changes.
- *   - Where a call is accepted, `out` receives the bytes and *length their number, or `fields`
- *     its numbers in the order given. What lies past them keeps its content.
+ *   - Where a call is accepted, `out` receives the bytes and *length their number, `run` the pairs
+ *     and *length their number, or `fields` its numbers in the order given. What lies past them
+ *     keeps its content.
  * Each comment names the refusals in the order in which they are tested. A yes or no handed in is a
  * uint8_t: 0 is no, anything else is yes. A type is one of the codes below.
  *
- * Stack: dos33_archive_open and dos33_archive_entry go as deep as the archive has blocks. Under
- * 352 KiB were measured for 4,096 blocks, and under 48 KiB for every other function.
+ * Two costs:
+ *   - Stack: dos33_archive_open and dos33_archive_entry go as deep as the archive has blocks. Under
+ *     352 KiB were measured for 4,096 blocks, and under 48 KiB for every other function.
+ *   - Time: dos33_archive_entry goes through all of the archive, dos33_archive_step looks at one
+ *     block. dos33_file, dos33_fetch and dos33_lists judge every file of the disk; for all files at
+ *     once: dos33_archive_write, dos33_archive_open, then dos33_archive_step entry by entry.
  */
 #ifndef DOS33_H
 #define DOS33_H
@@ -72,6 +78,7 @@ enum {
     DOS33_CATALOG_MOST = 145040,    /* catalog: 37 * 7 * 560 */
     DOS33_LISTS_MOST = 1120,        /* lists: 2 * 560 */
     DOS33_PAIRS_MOST = 242,         /* pairs: 2 * 121 */
+    DOS33_PAIR_RUN_MOST = 121,      /* pair_run, in pairs */
     DOS33_FILE_MOST = 65536,        /* file, fetch */
     DOS33_ARCHIVE_MOST = 1048576,   /* archive_write: 256 * 4096 */
     DOS33_NIBBLES_SIZE = 343,       /* encode_sector */
@@ -82,6 +89,12 @@ enum {
     DOS33_STEP_FIELDS = 8,
     DOS33_FORMAT_FIELDS = 1
 };
+
+/* A pair of a track/sector list: two bytes, one behind the other. */
+typedef struct dos33_track_sector_pair {
+    uint8_t track_number;
+    uint8_t sector_number;
+} dos33_track_sector_pair;
 
 /* The 256 bytes of a sector, of `disk` if flat, else of `image`; the other one is not read.
    1, 3, 12. */
@@ -110,6 +123,10 @@ uint8_t dos33_lists(const uint8_t *disk, size_t disk_length, uint64_t entry,
 /* Track and sector of each pair of the list at that location. They are not followed. 1, 3, 12. */
 uint8_t dos33_pairs(const uint8_t *disk, size_t disk_length, uint8_t track, uint8_t sector,
                     uint8_t *out, size_t out_length, uint64_t *length);
+
+/* The same pairs in a run of structs; *length is their number. 1, 3, 12. */
+uint8_t dos33_pair_run(const uint8_t *disk, size_t disk_length, uint8_t track, uint8_t sector,
+                       dos33_track_sector_pair *run, size_t run_length, uint64_t *length);
 
 /* The bytes of entry number `entry`, from 0. A number past the catalog has none. 1 to 6, 12. */
 uint8_t dos33_file(const uint8_t *disk, size_t disk_length, uint64_t entry,
@@ -141,9 +158,16 @@ uint8_t dos33_archive_open(const uint8_t *archive, size_t archive_length,
    first data block (0: no data), type, lock, name length, sector count, data length. The name
    stands at 256 * block + 7. Any other block is the end: eight zeros. A data block has the next
    data block in bytes 0-1 (low byte first, 0 after the last) and up to 254 bytes of data from
-   byte 2. 13, 12. */
+   byte 2. The archive is opened again at each call. 13, 12. */
 uint8_t dos33_archive_entry(const uint8_t *archive, size_t archive_length, uint64_t block,
                             uint64_t *fields, size_t fields_length);
+
+/* The same 8 numbers, of a block that dos33_archive_open or a step gave for these very bytes; that
+   block alone is looked at. A block that does not look like an entry block is the end: eight zeros,
+   and 13 is never given. A data block can look like one (254 zeros do), so of a block that no step
+   gave this may show an entry that the archive has not: then ask dos33_archive_entry. 12. */
+uint8_t dos33_archive_step(const uint8_t *archive, size_t archive_length, uint64_t block,
+                           uint64_t *fields, size_t fields_length);
 
 /* 343 bytes: the 342 nibbles of a sector and the sum nibble. 1, 12. */
 uint8_t dos33_encode_sector(const uint8_t *sector, size_t sector_length,

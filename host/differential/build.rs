@@ -1,4 +1,4 @@
-// Copies image-rider's files into the build folder, unchanged but for one line, and links our library.
+// Copies image-rider's files into the build folder, unchanged but for one line. Our library is linked by the crate dos33.
 use std::path::{Path, PathBuf};
 use std::{env, fs};
 
@@ -26,18 +26,6 @@ fn main() {
         copy(&source.join("src").join(file), &build.join(file));
     }
     fs::write(build.join("modules.rs"), modules(&build)).unwrap();
-
-    let library = top.join("target/staticlib");
-    let archive = library.join("libhost.a");
-    if !archive.exists() {
-        panic!(
-            "{} is not there: run `rt staticlib host` at the top",
-            archive.display()
-        );
-    }
-    println!("cargo:rerun-if-changed={}", archive.display());
-    println!("cargo:rustc-link-search=native={}", library.display());
-    println!("cargo:rustc-link-lib=static=host");
 }
 
 fn copy(from: &Path, to: &Path) {

@@ -30,8 +30,8 @@ pub struct Archive<'a> {
 impl<'a> Archive<'a> {
     /// Opens an archive. No disk is needed.
     ///
-    /// This and each step of [`entries`](Archive::entries) go as deep as there are blocks: in a thread
-    /// of your own, give it 512 KiB of stack or more. (Rust's threads have 2 MiB.)
+    /// This goes as deep as there are blocks, and so does [`entry`](Archive::entry): in a thread of your
+    /// own, give it 512 KiB of stack or more. (Rust's threads have 2 MiB.)
     ///
     /// # Errors
     /// 13 for bytes that are the archive of no contents.
@@ -46,6 +46,18 @@ impl<'a> Archive<'a> {
             first: f[1],
             blocks: f[2] as usize,
         })
+    }
+
+    // Of bytes that the writer has just handed over, which opening would not refuse: block 0 has the
+    // volume and the first entry block.
+    pub(crate) fn written(bytes: &'a [u8]) -> Archive<'a> {
+        let byte = |i: usize| bytes.get(i).copied().unwrap_or(0);
+        Archive {
+            bytes,
+            volume: byte(0),
+            first: u64::from(u16::from_le_bytes([byte(1), byte(2)])),
+            blocks: bytes.len() / 256,
+        }
     }
 
     /// The volume byte.
@@ -63,15 +75,26 @@ impl<'a> Archive<'a> {
         self.bytes
     }
 
-    /// The entries, each once and in order.
-    ///
-    /// The library judges the whole archive again at each step: about a millisecond where it has
-    /// 4,096 blocks, so some seconds for 4,095 entries, and little for the archive of an ordinary disk.
+    /// The entries, each once and in order. A step looks at one block alone.
     pub fn entries(&self) -> Entries<'a> {
         Entries {
             bytes: self.bytes,
             block: self.first,
         }
+    }
+
+    /// The entry whose entry block is `block` ([`ArchiveEntry::block`]); none for any other number.
+    ///
+    /// The library opens the archive again for it: about a millisecond where it has 4,096 blocks.
+    /// [`entries`](Archive::entries) is the way through all of them.
+    pub fn entry(&self, block: u64) -> Option<ArchiveEntry<'a>> {
+        let s = self.bytes;
+        // SAFETY: the archive is lent for reading, the numbers are this call's own.
+        // Opened bytes that are still lent are never refused.
+        let f = lend::numbers(|p, n| unsafe {
+            raw::dos33_archive_entry(s.as_ptr(), s.len(), block, p, n)
+        });
+        ArchiveEntry::shown(s, block, f.ok()?)
     }
 }
 
@@ -111,25 +134,13 @@ impl<'a> Iterator for Entries<'a> {
         let (s, block) = (self.bytes, self.block);
         self.block = 0;
         // SAFETY: the archive is lent for reading, the numbers are this call's own.
-        // Opened bytes that are still lent are never refused.
+        // The block is one that opening or the step before gave.
         let f: [u64; 8] = lend::numbers(|p, n| unsafe {
-            raw::dos33_archive_entry(s.as_ptr(), s.len(), block, p, n)
+            raw::dos33_archive_step(s.as_ptr(), s.len(), block, p, n)
         })
         .ok()?;
-        if f[0] == 0 {
-            return None;
-        }
         self.block = f[1];
-        let at = 256 * block as usize + 7;
-        Some(ArchiveEntry {
-            bytes: s,
-            first: f[2] as usize,
-            kind: FileType::from_code(f[3] as u8),
-            locked: f[4] != 0,
-            name: s.get(at..at + f[5] as usize)?,
-            sectors: f[6] as u16,
-            length: f[7] as usize,
-        })
+        ArchiveEntry::shown(s, block, f)
     }
 }
 
@@ -139,6 +150,7 @@ impl FusedIterator for Entries<'_> {}
 #[derive(Clone, Copy, Debug)]
 pub struct ArchiveEntry<'a> {
     bytes: &'a [u8],
+    block: u64,
     first: usize,
     kind: FileType,
     locked: bool,
@@ -148,6 +160,29 @@ pub struct ArchiveEntry<'a> {
 }
 
 impl<'a> ArchiveEntry<'a> {
+    // From the eight numbers of a step; none at the end.
+    fn shown(bytes: &'a [u8], block: u64, f: [u64; 8]) -> Option<ArchiveEntry<'a>> {
+        if f[0] == 0 {
+            return None;
+        }
+        let at = 256 * block as usize + 7;
+        Some(ArchiveEntry {
+            bytes,
+            block,
+            first: f[2] as usize,
+            kind: FileType::from_code(f[3] as u8),
+            locked: f[4] != 0,
+            name: bytes.get(at..at + f[5] as usize)?,
+            sectors: f[6] as u16,
+            length: f[7] as usize,
+        })
+    }
+
+    /// Its entry block: a number to keep for [`Archive::entry`].
+    pub fn block(&self) -> u64 {
+        self.block
+    }
+
     /// The name: ASCII, at most 30 bytes. It may hold control characters.
     pub fn name(&self) -> &'a str {
         text(self.name)
@@ -189,7 +224,7 @@ impl<'a> ArchiveEntry<'a> {
 
     /// The data, copied into one piece.
     pub fn to_vec(&self) -> Vec<u8> {
-        let mut all = Vec::new();
+        let mut all = Vec::with_capacity(self.length);
         self.data().for_each(|part| all.extend_from_slice(part));
         all
     }

@@ -1,7 +1,7 @@
 use crate::types::locations;
 use crate::{
-    denibblize, lend, nibblize, raw, CatalogEntry, FileType, Location, Name, Refusal, Sector,
-    Survey, Track, Vtoc,
+    denibblize, lend, nibblize, raw, Archive, CatalogEntry, File, FileType, Location, Name,
+    Refusal, Sector, Survey, Track, TrackSectorPair, Vtoc,
 };
 
 // The most that each call can need.
@@ -81,14 +81,15 @@ impl<'a> Disk<'a> {
     pub fn catalog(&self) -> Result<Vec<CatalogEntry>, Refusal> {
         let d = self.bytes();
         // SAFETY: slices of this function, the written ones its own.
-        let roll = lend::bytes(CATALOG_MOST, |o, n, l| unsafe {
+        let roll = lend::space(CATALOG_MOST, |o, n, l| unsafe {
             raw::dos33_catalog(d.as_ptr(), d.len(), o, n, l)
         })?;
         Ok(roll.chunks_exact(37).map(entry).collect())
     }
 
     /// The bytes of entry number `index` of the catalog, from 0. A file that is not Binary has none,
-    /// nor has a number past the catalog. Every file of the disk is judged, whichever is asked for.
+    /// nor has a number past the catalog. Every file of the disk is judged, whichever is asked for: who
+    /// wants them all takes [`files`](Disk::files).
     ///
     /// # Errors
     /// 1 to 6.
@@ -98,6 +99,66 @@ impl<'a> Disk<'a> {
         lend::bytes(FILE_MOST, |o, n, l| unsafe {
             raw::dos33_file(d.as_ptr(), d.len(), index as u64, o, n, l)
         })
+    }
+
+    /// Every entry of the catalog with its bytes, in order: what [`catalog`](Disk::catalog) and then
+    /// [`file`](Disk::file) of each give. It costs the catalog and the archive, not a pass over the disk
+    /// for each file.
+    ///
+    /// The archive is written and stepped through. A disk whose archive would have over 4,096 blocks (7)
+    /// is read file by file instead, so that nothing is lost.
+    ///
+    /// ```
+    /// use dos33::{binary_file, catalog_page, Disk, EntryRecord, FileType, Location, Sector, Track};
+    ///
+    /// // Two Binary files. Each has its list in sector 0 of a track, and its bytes in sector 1.
+    /// let mut bytes = vec![0; dos33::DISK_SIZE];
+    /// let at = |track: usize, sector: usize| 4096 * track + 256 * sector;
+    /// bytes[at(17, 0) + 2] = 15;
+    /// bytes[at(17, 0) + 52] = 35;
+    /// bytes[at(17, 0) + 53] = 16;
+    /// let record = |track: u8, name| EntryRecord {
+    ///     list: Location::new(Track(track), Sector(0)),
+    ///     kind: FileType::Binary,
+    ///     locked: false,
+    ///     name,
+    ///     sectors: 2,
+    /// };
+    /// let page = catalog_page(&[], &[record(18, b"LINE"), record(19, b"WAY")])?;
+    /// bytes[at(17, 15)..][..256].copy_from_slice(&page);
+    /// for (track, data) in [(18, b"HELLO"), (19, b"THERE")] {
+    ///     bytes[at(track, 0) + 12..][..2].copy_from_slice(&[track as u8, 1]);
+    ///     let file = binary_file(FileType::Binary, 0x2000, 5, data)?;
+    ///     bytes[at(track, 1)..][..file.len()].copy_from_slice(&file);
+    /// }
+    ///
+    /// let files = Disk::flat(&bytes).files()?;
+    /// assert_eq!(files.len(), 2);
+    /// assert_eq!((files[0].entry.name.as_str(), &files[0].bytes[..]), ("LINE", &b"HELLO"[..]));
+    /// assert_eq!((files[1].entry.name.as_str(), &files[1].bytes[..]), ("WAY", &b"THERE"[..]));
+    /// # Ok::<(), dos33::Refusal>(())
+    /// ```
+    ///
+    /// # Errors
+    /// 1 to 6.
+    pub fn files(&self) -> Result<Vec<File>, Refusal> {
+        let entries = self.catalog()?;
+        let file = |entry, bytes| File { entry, bytes };
+        match self.write_archive() {
+            Ok(archive) => {
+                let steps = Archive::written(&archive).entries();
+                let all = entries.into_iter().zip(steps);
+                Ok(all
+                    .map(|(entry, step)| file(entry, step.to_vec()))
+                    .collect())
+            }
+            Err(Refusal::Overlong) => {
+                let all = entries.into_iter().enumerate();
+                all.map(|(k, entry)| Ok(file(entry, self.file(k)?)))
+                    .collect()
+            }
+            Err(refusal) => Err(refusal),
+        }
     }
 
     /// The bytes of the last entry with that name, as the catalog shows it.
@@ -120,7 +181,7 @@ impl<'a> Disk<'a> {
     pub fn lists(&self, index: usize) -> Result<Vec<Location>, Refusal> {
         let d = self.bytes();
         // SAFETY: as in `catalog`.
-        let run = lend::bytes(LISTS_MOST, |o, n, l| unsafe {
+        let run = lend::space(LISTS_MOST, |o, n, l| unsafe {
             raw::dos33_lists(d.as_ptr(), d.len(), index as u64, o, n, l)
         })?;
         Ok(locations(&run))
@@ -133,10 +194,48 @@ impl<'a> Disk<'a> {
     pub fn pairs(&self, track: Track, sector: Sector) -> Result<Vec<Location>, Refusal> {
         let d = self.bytes();
         // SAFETY: as in `catalog`.
-        let run = lend::bytes(PAIRS_MOST, |o, n, l| unsafe {
+        let run = lend::space(PAIRS_MOST, |o, n, l| unsafe {
             raw::dos33_pairs(d.as_ptr(), d.len(), track.0, sector.0, o, n, l)
         })?;
         Ok(locations(&run))
+    }
+
+    /// The same pairs, put into the front of a lent run, and their number. What lies past them in the
+    /// run stays as it was, and under a refusal all of it does. [`LIST_PAIRS`](crate::LIST_PAIRS) pairs
+    /// are always enough.
+    ///
+    /// ```
+    /// use dos33::{Disk, Sector, Track, TrackSectorPair};
+    ///
+    /// // A list of two pairs at 18/15.
+    /// let mut bytes = vec![0; dos33::DISK_SIZE];
+    /// let list = 4096 * 18 + 256 * 15;
+    /// bytes[list + 12..list + 16].copy_from_slice(&[18, 1, 18, 2]);
+    ///
+    /// let mut run = [TrackSectorPair::default(); dos33::LIST_PAIRS];
+    /// let n = Disk::flat(&bytes).pair_run(Track(18), Sector(15), &mut run)?;
+    /// assert_eq!(n, 2);
+    /// assert_eq!(run[1], TrackSectorPair { track_number: 18, sector_number: 2 });
+    /// # Ok::<(), dos33::Refusal>(())
+    /// ```
+    ///
+    /// # Errors
+    /// 1, 3, 12.
+    pub fn pair_run(
+        &self,
+        track: Track,
+        sector: Sector,
+        run: &mut [TrackSectorPair],
+    ) -> Result<usize, Refusal> {
+        let d = self.bytes();
+        let mut length = 0u64;
+        let (p, n) = (run.as_mut_ptr(), run.len());
+        // SAFETY: the disk is lent for reading, the run is lent to this call alone, the length is its
+        // own.
+        lend::accepted(unsafe {
+            raw::dos33_pair_run(d.as_ptr(), d.len(), track.0, sector.0, p, n, &mut length)
+        })?;
+        Ok(length as usize)
     }
 
     /// The bytes of a sector.
@@ -215,9 +314,16 @@ impl<'a> Disk<'a> {
     /// # Errors
     /// 1 to 6, 7.
     pub fn archive(&self) -> Result<Vec<u8>, Refusal> {
+        let mut bytes = self.write_archive()?;
+        bytes.shrink_to_fit();
+        Ok(bytes)
+    }
+
+    // The archive, with the room behind it that was lent.
+    fn write_archive(&self) -> Result<Vec<u8>, Refusal> {
         let d = self.bytes();
         // SAFETY: as in `catalog`.
-        lend::bytes(ARCHIVE_MOST, |o, n, l| unsafe {
+        lend::space(ARCHIVE_MOST, |o, n, l| unsafe {
             raw::dos33_archive_write(d.as_ptr(), d.len(), o, n, l)
         })
     }

@@ -8,15 +8,26 @@ pub(crate) fn accepted(number: u8) -> Result<(), Refusal> {
     }
 }
 
-// At most `most` bytes: the call gets pointer and length of the space, and the place of the length.
+// At most `most` bytes: the call gets pointer and length of the space, and the place of the length. The space is not cleared before.
+pub(crate) fn space(
+    most: usize,
+    call: impl FnOnce(*mut u8, usize, *mut u64) -> u8,
+) -> Result<Vec<u8>, Refusal> {
+    let mut out = Vec::with_capacity(most);
+    let mut length = 0u64;
+    accepted(call(out.as_mut_ptr(), most, &mut length))?;
+    // SAFETY: there is room for `most` bytes, and a call that accepts has written the first `length` of
+    // them, which are no more than it was lent.
+    unsafe { out.set_len(most.min(length as usize)) };
+    Ok(out)
+}
+
+// The same, to be handed out: no room is left behind the bytes.
 pub(crate) fn bytes(
     most: usize,
     call: impl FnOnce(*mut u8, usize, *mut u64) -> u8,
 ) -> Result<Vec<u8>, Refusal> {
-    let mut out = vec![0u8; most];
-    let mut length = 0u64;
-    accepted(call(out.as_mut_ptr(), out.len(), &mut length))?;
-    out.truncate(usize::try_from(length).unwrap_or(most));
+    let mut out = space(most, call)?;
     out.shrink_to_fit();
     Ok(out)
 }

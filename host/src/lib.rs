@@ -38,11 +38,17 @@
 //!
 //! | document 01 | here |
 //! |---|---|
-//! | disc, roll, thread, load | [`Disk`], [`Disk::catalog`], [`Disk::lists`], [`Disk::file`] |
+//! | disc, roll, thread, load | [`Disk`], [`Disk::catalog`], [`Disk::lists`], [`Disk::file`], [`Disk::files`] |
+//! | list, lent run of pairs | [`Disk::pairs`], [`Disk::pair_run`] |
 //! | window, survey | [`Disk::sector`], [`Disk::survey`] |
 //! | return | [`Disk::archive`], [`Disk::check`], [`Archive`] |
 //! | unroll, nibble writer | [`denibblize`], [`nibblize`] |
 //! | slip, number | [`Refusal`], [`Refusal::number`] |
+//!
+//! Two costs to know. [`Archive::open`] and [`Archive::entry`] go as deep as the archive has blocks, so
+//! they want 512 KiB of stack; a step of [`Archive::entries`] looks at one block alone. And
+//! [`Disk::file`], [`Disk::fetch`] and [`Disk::lists`] judge every file of the disk at each call: for
+//! all files in one go there is [`Disk::files`].
 #![warn(missing_docs)]
 
 mod archive;
@@ -62,10 +68,16 @@ pub use nibbles::{
 };
 pub use records::{binary_file, catalog_page, EntryRecord};
 pub use refusal::Refusal;
-pub use types::{CatalogEntry, FileType, Location, Name, Sector, Survey, Track, Vtoc};
+pub use types::{
+    CatalogEntry, File, FileType, Location, Name, Sector, Survey, Track, TrackSectorPair, Vtoc,
+};
 
 /// The bytes of a flat disk: 35 tracks of 16 sectors of 256.
 pub const DISK_SIZE: usize = 143_360;
 
 /// The bytes of a stream that [`nibblize`] writes.
 pub const STREAM_SIZE: usize = 232_960;
+
+/// The pairs that a track/sector list has at most: so much space is always enough for
+/// [`Disk::pair_run`].
+pub const LIST_PAIRS: usize = 121;

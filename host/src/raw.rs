@@ -1,15 +1,18 @@
 //! The exported functions as they are. The safe calls of this crate stand on them.
 //!
-//! A slice is a pointer and a length (of `fields`: in elements). The result is the number of a
-//! refusal, 0 for accepted; only [`dos33_recognize_prologue`] gives something else. Under a refusal
-//! nothing lent changes. Where a call is accepted, `out` receives the bytes and `*length` their
-//! number, or `fields` its numbers; what lies past them keeps its content.
+//! A slice is a pointer and a length (of `fields` and `run`: in elements). The result is the number of
+//! a refusal, 0 for accepted; only [`dos33_recognize_prologue`] gives something else. Under a refusal
+//! nothing lent changes. Where a call is accepted, `out` receives the bytes and `*length` their number,
+//! `run` the pairs and `*length` their number, or `fields` its numbers; what lies past them keeps its
+//! content.
 //!
 //! # Safety
 //!
 //! For each of them: every pointer is valid for its length and not null, even for length 0;
 //! nothing lent to be written overlaps anything else that is lent. There is no other duty.
 #![allow(clippy::missing_safety_doc)]
+
+use crate::TrackSectorPair;
 
 extern "C" {
     /// The 256 bytes of a sector, of `disk` if `flat` is not 0, else of `image`. Refusals 1, 3, 12.
@@ -63,6 +66,17 @@ extern "C" {
         sector: u8,
         out: *mut u8,
         out_length: usize,
+        length: *mut u64,
+    ) -> u8;
+
+    /// The same pairs in a run of structs; `*length` is their number, at most 121. Refusals 1, 3, 12.
+    pub fn dos33_pair_run(
+        disk: *const u8,
+        disk_length: usize,
+        track: u8,
+        sector: u8,
+        run: *mut TrackSectorPair,
+        run_length: usize,
         length: *mut u64,
     ) -> u8;
 
@@ -123,8 +137,22 @@ extern "C" {
 
     /// 8 numbers of the entry whose entry block is `block`: 1, next entry block, first data block, type,
     /// lock, name length, sector count, data length. Any other block is the end: eight zeros.
-    /// Refusals 13, 12.
+    /// The archive is opened again at each call. Refusals 13, 12.
     pub fn dos33_archive_entry(
+        archive: *const u8,
+        archive_length: usize,
+        block: u64,
+        fields: *mut u64,
+        fields_length: usize,
+    ) -> u8;
+
+    /// The same 8 numbers, of a block that [`dos33_archive_open`] or a step gave for these very bytes.
+    /// That block alone is looked at: this is the cheap step. Refusal 12.
+    ///
+    /// A block that does not look like an entry block is the end: eight zeros, 13 is never given. A
+    /// data block can look like one (254 zeros do), so of a block that no step gave this may show an
+    /// entry that the archive has not; [`dos33_archive_entry`] shows entry blocks alone.
+    pub fn dos33_archive_step(
         archive: *const u8,
         archive_length: usize,
         block: u64,

@@ -36,7 +36,8 @@ pub enum Refusal {
     Absent,
     /// 11: a stream has a track over 34, a sector over 15 or a second volume.
     Stranger,
-    /// 12: lent space is under the need. The calls of this crate lend enough; see [`crate::raw`].
+    /// 12: lent space is under the need. Only [`Disk::pair_run`](crate::Disk::pair_run) gives it; the
+    /// other calls of this crate lend enough themselves.
     TrayShort,
     /// 13: bytes that are not the disk's archive, or no archive at all.
     NotItsReturn,

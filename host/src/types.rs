@@ -24,6 +24,23 @@ impl Location {
     }
 }
 
+/// A pair of a track/sector list as [`Disk::pair_run`](crate::Disk::pair_run) hands it over: two bytes,
+/// as C has them. It names a location, which may be off the disk.
+#[derive(Clone, Copy, Debug, Default, PartialEq, Eq, Hash, PartialOrd, Ord)]
+#[repr(C)]
+pub struct TrackSectorPair {
+    /// The track.
+    pub track_number: u8,
+    /// The sector.
+    pub sector_number: u8,
+}
+
+impl From<TrackSectorPair> for Location {
+    fn from(pair: TrackSectorPair) -> Location {
+        Location::new(Track(pair.track_number), Sector(pair.sector_number))
+    }
+}
+
 // The locations in a run of two bytes each.
 pub(crate) fn locations(bytes: &[u8]) -> Vec<Location> {
     bytes
@@ -174,6 +191,15 @@ pub struct CatalogEntry {
     pub name: Name,
     /// Its sector count, as the entry states it.
     pub sectors: u16,
+}
+
+/// A file: its entry in the catalog, and its bytes.
+#[derive(Clone, Debug, PartialEq, Eq, Hash)]
+pub struct File {
+    /// The entry.
+    pub entry: CatalogEntry,
+    /// The bytes. A file that is not Binary has none.
+    pub bytes: Vec<u8>,
 }
 
 /// The volume table of contents.

@@ -14,6 +14,8 @@ fn agrees(disk: &Disk<'_>, bytes: &[u8]) {
         disk.survey().unwrap().archive_blocks
     );
     let catalog = disk.catalog().unwrap();
+    let files = disk.files().unwrap();
+    assert_eq!(files.len(), catalog.len());
     let mut steps = archive.entries();
     for (k, c) in catalog.iter().enumerate() {
         let e = steps.next().unwrap();
@@ -23,6 +25,7 @@ fn agrees(disk: &Disk<'_>, bytes: &[u8]) {
             (c.kind, c.locked, c.sectors)
         );
         let data = disk.file(k).unwrap();
+        assert_eq!((files[k].entry, &files[k].bytes), (*c, &data));
         assert_eq!((e.len(), e.is_empty()), (data.len(), data.is_empty()));
         assert_eq!(e.to_vec(), data);
         let parts: Vec<&[u8]> = e.data().collect();
@@ -117,18 +120,30 @@ fn the_largest_archives() {
     // Opening goes as deep as there are blocks; so much stack is enough.
     let copy = bytes.clone();
     let small = std::thread::Builder::new().stack_size(512 * 1024);
-    let opened = small.spawn(move || Archive::open(&copy).map(|a| a.entries().take(2).count()));
-    assert_eq!(opened.unwrap().join().unwrap(), Ok(2));
+    let opened = small.spawn(move || {
+        Archive::open(&copy).map(|a| (a.entries().count(), a.entry(4095).is_some()))
+    });
+    assert_eq!(opened.unwrap().join().unwrap(), Ok((4095, true)));
     let archive = Archive::open(&bytes).unwrap();
     assert_eq!(archive.blocks(), 4096);
     assert_eq!(
         archive
             .entries()
-            .take(10)
-            .filter(|e| e.is_empty() && e.name().is_empty())
+            .zip(1..)
+            .filter(|(e, b)| e.block() == *b && e.is_empty() && e.name().is_empty())
             .count(),
-        10
+        4095
     );
+    assert_eq!(archive.entries().count(), 4095);
+    assert_eq!(archive.entry(4095).map(|e| e.block()), Some(4095));
+    assert!(archive.entry(0).is_none() && archive.entry(4096).is_none());
+    // Steps need little stack.
+    let steps = archive.entries();
+    let counted = std::thread::scope(|s| {
+        let small = std::thread::Builder::new().stack_size(48 * 1024);
+        small.spawn_scoped(s, || steps.count()).unwrap().join()
+    });
+    assert_eq!(counted.unwrap(), 4095);
 
     let size = 254 * 4094;
     one[256 + 2] = 2;
@@ -197,6 +212,7 @@ fn by_chance() {
                 refused[usize::from(r.number())] += 1;
                 assert_eq!(disk.survey(), Err(r));
                 assert_eq!(disk.file(0), Err(r));
+                assert_eq!(disk.files(), Err(r));
                 assert_eq!(disk.lists(0), Err(r));
                 assert_eq!(disk.fetch("LINE 7"), Err(r));
                 assert_eq!(disk.check(&[]), Err(r));
@@ -231,12 +247,18 @@ fn any_bytes_have_an_answer() {
         );
         let _ = (
             disk.file(k),
+            disk.files(),
             disk.lists(k),
             disk.fetch(&bytes),
             disk.check(&bytes),
         );
         let (t, s) = (Track(dice.roll(256) as u8), Sector(dice.roll(256) as u8));
-        let _ = (disk.sector(t, s), disk.pairs(t, s));
+        let mut run = [TrackSectorPair::default(); LIST_PAIRS];
+        let _ = (
+            disk.sector(t, s),
+            disk.pairs(t, s),
+            disk.pair_run(t, s, &mut run),
+        );
         let _ = (
             Disk::nibbles(&bytes),
             recognize_prologue(&bytes),

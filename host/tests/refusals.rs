@@ -11,11 +11,12 @@ fn poked(pokes: &[(usize, u8)]) -> Vec<u8> {
     d
 }
 
-// What the seven calls that go through every entry say.
+// What the calls that go through every entry say.
 fn deep(d: &[u8], due: Refusal) {
     let disk = Disk::flat(d);
     assert_eq!(disk.file(0), Err(due));
     assert_eq!(disk.file(1_000_000), Err(due));
+    assert_eq!(disk.files(), Err(due));
     assert_eq!(disk.fetch("LINE 7"), Err(due));
     assert_eq!(disk.fetch("NOBODY"), Err(due));
     assert_eq!(disk.lists(0), Err(due));

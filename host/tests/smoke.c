@@ -17,7 +17,8 @@ int main(void) {
     static const uint8_t header[] = {0, 0, 0};
     uint8_t data[300], listed[37] = {18, 2, DOS33_BINARY, 1, 4, 'L', 'I', 'N', 'E'};
     uint8_t small[4] = {1, 2, 3, 4};
-    uint64_t f[DOS33_VTOC_FIELDS], n = 0, blocks, k, block, left, size;
+    dos33_track_sector_pair run[3] = {{77, 78}, {77, 78}, {77, 78}};
+    uint64_t f[DOS33_VTOC_FIELDS], g[DOS33_STEP_FIELDS], n = 0, blocks, k, block, left, size;
 
     listed[35] = 3;
     for (k = 0; k < sizeof data; k++) data[k] = (uint8_t)(7 * k);
@@ -50,6 +51,16 @@ int main(void) {
     EXPECT(dos33_pairs(disk, sizeof disk, 18, 2, out, sizeof out, &n) == 0);
     EXPECT(n == 4 && out[2] == 18 && out[3] == 4);
     EXPECT(dos33_pairs(disk, sizeof disk, 35, 0, out, sizeof out, &n) == DOS33_OFF_DISC);
+    n = 99;
+    EXPECT(dos33_pair_run(disk, sizeof disk - 1, 35, 0, run, 1, &n) == DOS33_OFF_SIZE);
+    EXPECT(dos33_pair_run(disk, sizeof disk, 35, 0, run, 1, &n) == DOS33_OFF_DISC);
+    EXPECT(dos33_pair_run(disk, sizeof disk, 18, 2, run, 1, &n) == DOS33_TRAY_SHORT);
+    EXPECT(n == 99 && run[0].track_number == 77 && run[0].sector_number == 78);
+    EXPECT(dos33_pair_run(disk, sizeof disk, 18, 2, run, 3, &n) == 0);
+    EXPECT(n == 2 && run[0].track_number == 18 && run[0].sector_number == 3);
+    EXPECT(run[1].track_number == 18 && run[1].sector_number == 4);
+    EXPECT(run[2].track_number == 77 && run[2].sector_number == 78);
+    EXPECT(sizeof run == 6 && DOS33_PAIR_RUN_MOST == 121);
     EXPECT(dos33_file(disk, sizeof disk, 0, out, sizeof out, &n) == 0);
     EXPECT(n == 300 && memcmp(out, data, 300) == 0);
     EXPECT(dos33_fetch(disk, sizeof disk, name, 4, out, sizeof out, &n) == 0 && n == 300);
@@ -81,6 +92,14 @@ int main(void) {
     EXPECT(dos33_archive_entry(archive, blocks, block, f, DOS33_STEP_FIELDS) == 0);
     EXPECT(f[0] == 1 && f[1] == 0 && f[3] == DOS33_BINARY && f[4] == 1 && f[5] == 4 && f[6] == 3 && f[7] == 300);
     EXPECT(memcmp(archive + 256 * block + 7, name, 4) == 0);
+    EXPECT(dos33_archive_step(archive, blocks, block, g, DOS33_STEP_FIELDS) == 0);
+    EXPECT(memcmp(f, g, sizeof g) == 0);
+    EXPECT(dos33_archive_step(archive, blocks, f[1], g, DOS33_STEP_FIELDS) == 0);
+    for (k = 0; k < DOS33_STEP_FIELDS; k++) EXPECT(g[k] == 0);
+    g[0] = 66;
+    EXPECT(dos33_archive_step(archive, blocks, block, g, DOS33_STEP_FIELDS - 1) == DOS33_TRAY_SHORT);
+    EXPECT(g[0] == 66);
+    EXPECT(dos33_archive_step(archive, blocks, UINT64_MAX, g, DOS33_STEP_FIELDS) == 0 && g[0] == 0);
     for (k = 0, block = f[2], left = f[7]; block != 0; k += size, left -= size) {
         const uint8_t *b = archive + 256 * block;
         size = left < 254 ? left : 254;

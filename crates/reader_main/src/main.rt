@@ -74,10 +74,10 @@ fn entry_lines(text: &[u8], e: Entry) {
     fields_line(e);
 }
 
-fn show_next(archive: &[u8], block: u64) {
-    entry_lines(b"block: refusal", reader::next_entry(archive, block));
+fn show_next(archive: &[u8], block: u16) {
+    entry_lines(b"block: refusal", cursor::entry_from(archive, block));
     print(b"  name ");
-    print(reader::entry_name(archive, block));
+    print(reader::entry_name(archive, block as u64));
     print(b"\n");
 }
 
@@ -97,11 +97,10 @@ fn show_data(archive: &[u8], block: u64, left: u64) {
 }
 
 fn show_steps(archive: &[u8]) {
-    let o = reader::open(archive);
-    let mut block = o.first;
+    let mut block = cursor::first_block(archive);
     let mut count: u32 = 0;
     while count < 5000 {
-        let e = reader::next_entry(archive, block as u64);
+        let e = cursor::entry_from(archive, block);
         if e.found == 0 {
             print_line(b"steps: entries", count as u64);
             return;
@@ -128,6 +127,10 @@ fn number(high: u8, low: u8) -> u64 {
     (256 * wide(high) + wide(low)) as u64
 }
 
+fn block_number(high: u8, low: u8) -> u16 {
+    (256 * wide(high) + wide(low)) as u16
+}
+
 fn poke(bytes: &mut [u8], at: usize, v: u8) {
     if at < bytes.len() {
         bytes[at] = v;
@@ -149,7 +152,7 @@ fn show(archive: &[u8], step: [u8; 5]) {
     let command = step[0];
     match command {
         3 => show_open(archive),
-        4 => show_next(archive, number(step[1], step[2])),
+        4 => show_next(archive, block_number(step[1], step[2])),
         5 => show_entry(archive, number(step[1], step[2])),
         6 => show_data(archive, number(step[1], step[2]), number(step[3], step[4])),
         7 => show_steps(archive),

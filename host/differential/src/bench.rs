@@ -3,6 +3,8 @@
 use std::hint::black_box;
 use std::time::Instant;
 
+use dos33::Disk;
+
 use crate::config::Config;
 use crate::disk_format::apple::disk::{apple_disk_parser, AppleDiskGuess, Encoding, Format};
 use crate::disk_format::apple::nibble::{build_nibble_sector, parse_nib_disk};
@@ -185,6 +187,11 @@ impl<'c> Work<'c> {
         }
     }
 
+    fn files(&mut self) {
+        let files = Disk::flat(black_box(&self.disk)).files();
+        assert_eq!(black_box(files).map(|f| f.len() as u64), Ok(self.files));
+    }
+
     fn archive_write(&mut self) {
         let (d, n) = (self.disk.as_ptr(), self.disk.len());
         let (o, size) = (self.out.as_mut_ptr(), self.out.len());
@@ -251,11 +258,12 @@ impl<'c> Work<'c> {
 
 type Thing = (&'static str, fn(&mut Work));
 
-const THINGS: [Thing; 13] = [
+const THINGS: [Thing; 14] = [
     ("survey", |w| w.survey()),
     ("catalog", |w| w.catalog()),
     ("file-0", |w| w.file(0)),
     ("catalog-and-files", |w| w.all_files()),
+    ("files-in-one-go", |w| w.files()),
     ("archive-write", |w| w.archive_write()),
     ("archive-check", |w| w.archive_check()),
     ("archive-open", |w| w.archive_open()),
@@ -306,7 +314,7 @@ fn row(what: &str, ours: f64, other: &str, theirs: f64) {
     } else {
         format!("{other} / ours {:6.2}", theirs / ours)
     };
-    println!("{what:34} {ours:12.0} ns   {other:12} {theirs:12.0} ns   {ratio}");
+    println!("{what:36} {ours:12.0} ns   {other:12} {theirs:12.0} ns   {ratio}");
 }
 
 fn beside_rust(work: &mut Work, what: &str, ours: fn(&mut Work), theirs: fn(&mut Work)) {
@@ -320,6 +328,12 @@ fn reading(work: &mut Work) {
         work,
         "catalog, and every file fetched",
         |w| w.all_files(),
+        |w| w.rust_load(),
+    );
+    beside_rust(
+        work,
+        "every file in one go (`Disk::files`)",
+        |w| w.files(),
         |w| w.rust_load(),
     );
     beside_rust(

@@ -60,6 +60,8 @@ pub fn compare(
         }
     }
 
+    ours.pairs_somewhere(disk, report);
+
     let ring = disk.len() >= SIZE && holds_ring(disk);
     let mut theirs = worker.load(disk, if ring { SHORT } else { LONG });
     // Late alone is no ring.

@@ -1,4 +1,6 @@
 // The functions of crates/host, called so that what they do to lent space is checked at each call.
+use dos33::TrackSectorPair;
+
 use crate::random::Random;
 use crate::report::Report;
 
@@ -32,6 +34,15 @@ mod raw {
             sector: u8,
             out: *mut u8,
             out_len: usize,
+            length: *mut u64,
+        ) -> u8;
+        pub fn dos33_pair_run(
+            disk: *const u8,
+            disk_len: usize,
+            track: u8,
+            sector: u8,
+            run: *mut dos33::TrackSectorPair,
+            run_len: usize,
             length: *mut u64,
         ) -> u8;
         pub fn dos33_file(
@@ -268,10 +279,71 @@ impl Ours {
         })
     }
 
+    // Also in a run of structs, which must be the same pairs.
     pub fn pairs(&mut self, disk: &[u8], track: u8, sector: u8, report: &mut Report) -> Answer {
-        self.handed("dos33_pairs", 242, disk, report, &|p, n, l| unsafe {
+        let answer = self.handed("dos33_pairs", 242, disk, report, &|p, n, l| unsafe {
             raw::dos33_pairs(disk.as_ptr(), disk.len(), track, sector, p, n, l)
-        })
+        });
+        let need = answer.bytes.len() / 2;
+        for room in [
+            need + self.random.below(40),
+            need,
+            need.saturating_sub(1),
+            self.random.below(122),
+        ] {
+            self.pair_run(disk, (track, sector), room, &answer, report);
+        }
+        answer
+    }
+
+    // Any location, on the disk or not: 1, 3, or what the sector has as a list.
+    pub fn pairs_somewhere(&mut self, disk: &[u8], report: &mut Report) {
+        let (track, sector) = (self.random.below(38) as u8, self.random.below(18) as u8);
+        let number = self.pairs(disk, track, sector, report).number;
+        let due = match (disk.len(), track, sector) {
+            (143_360, 0..=34, 0..=15) => 0,
+            (143_360, ..) => 3,
+            _ => 1,
+        };
+        if number != due {
+            report.difference("dos33_pairs", disk, format!("{track}/{sector}: {number}"));
+        }
+        report.compared("pairs as bytes and in a run, at any location");
+    }
+
+    // The run with room for so many pairs: those of `pairs`, or its number, or 12; and what lies past them is as it was.
+    fn pair_run(
+        &mut self,
+        disk: &[u8],
+        (track, sector): (u8, u8),
+        room: usize,
+        pairs: &Answer,
+        report: &mut Report,
+    ) {
+        let before = [self.random.byte(), self.random.byte()];
+        let pair = |p: &[u8]| TrackSectorPair {
+            track_number: p[0],
+            sector_number: p[1],
+        };
+        let mut run = vec![pair(&before); room];
+        let mut length = LENGTH_BEFORE;
+        let (d, n, p) = (disk.as_ptr(), disk.len(), run.as_mut_ptr());
+        let number = unsafe { raw::dos33_pair_run(d, n, track, sector, p, room, &mut length) };
+        report.number("dos33_pair_run", number);
+        let mut due: Vec<TrackSectorPair> = pairs.bytes.chunks_exact(2).map(pair).collect();
+        let short = due.len() > room;
+        let mut expected = (pairs.number, due.len() as u64);
+        if pairs.number != 0 || short {
+            expected = (if short { 12 } else { pairs.number }, LENGTH_BEFORE);
+            due.clear();
+        }
+        due.resize(room, pair(&before));
+        if (number, length) != expected || run != due {
+            let text = format!(
+                "{track}/{sector}, room {room}: {number}, length {length}, not {expected:?}"
+            );
+            report.difference("dos33_pair_run", disk, text);
+        }
     }
 
     pub fn file(&mut self, disk: &[u8], entry: u64, report: &mut Report) -> Answer {

@@ -4,10 +4,10 @@ use Rattle.reader_main.proofs.show_steps.Statement.{statement}
 use Rattle.reader_main.proofs.show_steps.Tie as tie
 
 abbrev Inv-loop : tie.InvT-loop
-Inv-loop archive block₀ count₀ t6 t7 block count = (count ≤ 5000) × (block < 65536)
+Inv-loop archive block₀ count₀ t5 t6 block count = (count ≤ 5000) × (block < 65536)
 
 abbrev μ-loop : tie.MeasureT-loop
-μ-loop archive block₀ count₀ t6 t7 block count = 5000 - count
+μ-loop archive block₀ count₀ t5 t6 block count = 5000 - count
 
 pub show-steps-spec : {M : Type 1} → statement M
 show-steps-spec =
@@ -15,10 +15,9 @@ show-steps-spec =
     (tie.spec
     Inv-loop
     μ-loop
-    (λ c κs. search needs)  -- open-requires
+    (λ c κs. search needs)  -- first-block-requires
     (λ c. search needs)  -- loop-holds
-    (λ c. search needs)  -- cast-next-entry
-    (λ c κs. search needs)  -- next-entry-requires
+    (λ c κs. search needs)  -- entry-from-requires
     (λ c. search needs)  -- slice-aggregate-print-line
     (λ c. search needs)  -- cast-print-line
     (λ c κs. search needs)  -- print-line-requires
