@@ -129,7 +129,7 @@ module _ (n : ℕ) (d : List ℕ) (kind : ℕ) (t : Thread) where
 pub ruleset starts = (start-none, start-four, start-zero, needs)
 
 -- ---- the bytes are the part that is copied
-cut-nil : (x y : ℕ) → cutOf x y [] ≡ []
+pub cut-nil : (x y : ℕ) → cutOf x y [] ≡ []
 cut-nil x y = rw (drop-nil {A = ℕ} y, take-nil {A = ℕ} x) refl
 
 module _ (n : ℕ) (d : List ℕ) (size : length d ≡ 256 * sectors n) where

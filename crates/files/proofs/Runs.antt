@@ -16,6 +16,7 @@ use Rattle.outcome.specs.Outcome.{Outcome, refused, given, _>>=_}
 use Rattle.disk.specs.Chain.{walk}
 use Rattle.disk.proofs.Steps.{made, rest, rest-start, rest-full, rest-off, rest-bad, rest-end, rest-more}
 use Rattle.files.specs.declared.Thread.{Thread}
+use Rattle.lists.proofs.Split.{and-assoc, and-true}
 use Rattle.lists.proofs.Select.{onward, onward-next, onward-end, takeWhile-next, takeWhile-stop}
 use Rattle.disk.specs.declared.Place.{Place}
 use Rattle.disk.specs.Disk.{place, onDisk, byteOf, linkOf}
@@ -65,12 +66,8 @@ module _ (n : ℕ) (d : List ℕ) (p : Place) where
     unfolding all
     ends e =
         let a : i ≡ length (pairsOf n d p) = omega (arith, c .long, ap length e) in
-        let b : good ≡ all (onDisk n) (pairsOf n d p) = sym (c .on ∙ rw e (go good)) in
+        let b : good ≡ all (onDisk n) (pairsOf n d p) = sym (c .on ∙ rw e (and-true good)) in
         λ j. record { count = a j; good = b j }
-      where
-        go : (t : Bool) → (t && true) ≡ t
-        go true = refl
-        go false = refl
 
     pub pairing-stop : i < 121 → (q : Place) → q ≡ pairAt n d p i → q .track .0 ≡ 0 → record { count = i; good = good } ≡ runOf n d p
     pairing-stop h q e z = ends (stop i h q e z)
@@ -88,12 +85,8 @@ module _ (n : ℕ) (d : List ℕ) (p : Place) where
         record {
           count = omega arith;
           long = omega (arith, c .long, ap length k);
-          on = c .on ∙ rw (k, ← w) (go good b (all (onDisk n) (behind (i + 1))));
+          on = c .on ∙ rw (k, ← w) (and-assoc good b (all (onDisk n) (behind (i + 1))));
         }
-      where
-        go : (x y t : Bool) → (x && (y && t)) ≡ ((x && y) && t)
-        go true y t = refl
-        go false y t = refl
 
 pub ruleset pairings = (pair-is, pairing-none, pairing-stop, pairing-full, pairing-few, pairing-more, needs)
 
@@ -155,11 +148,7 @@ run k m good head = record { lists = k; pairs = m; good = good; head = head }
 all-append : {A : Type 0} (t : A → Bool) (xs ys : List A) → all t (xs ++ ys) ≡ (all t xs && all t ys)
 unfolding all
 all-append t [] ys = refl
-all-append t (x ∷ xs) ys = rw (all-append t xs ys) (go (t x) (all t xs) (all t ys))
-  where
-    go : (a b c : Bool) → (a && (b && c)) ≡ ((a && b) && c)
-    go true b c = refl
-    go false b c = refl
+all-append t (x ∷ xs) ys = rw (all-append t xs ys) (and-assoc (t x) (all t xs) (all t ys))
 
 -- the first of two lists
 head-append : (xs ys : List Place) → headOf (xs ++ ys) ≡ cond (eqb (length xs) 0) (headOf ys) (headOf xs)

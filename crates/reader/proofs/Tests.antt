@@ -18,7 +18,7 @@ use Rattle.lists.specs.Same.{same}
 use Rattle.lists.specs.Words.{wordAt, le2, le3}
 use Rattle.lists.proofs.Laws.{length-padded}
 use Rattle.lists.proofs.Split.{by-test, both-true}
-use Rattle.lists.proofs.Equal.{same-refl, same-length}
+use Rattle.lists.proofs.Equal.{same-refl, same-length, same-append}
 use Rattle.catalog.specs.Catalog.{kindOf, isNil, trimmed}
 use Rattle.files.specs.Contents.{File}
 use Rattle.files.specs.Survey.{blocksFor}
@@ -167,14 +167,6 @@ same-front (suc n) (x ∷ xs) =
     let e : suc (length xs) - suc (length (take n xs)) ≡ length xs - length (take n xs) = omega arith in
     rw (e, eq-eqb x x refl) (same-front n xs)
 
--- two lists in two parts
-same-parts : (x u y v : List ℕ) → length x ≡ length u → same (x ++ y) (u ++ v) ≡ (same x u && same y v)
-unfolding same
-same-parts [] [] y v e = refl
-same-parts [] (b ∷ u) y v e = absurd (omega arith)
-same-parts (a ∷ x) [] y v e = absurd (omega arith)
-same-parts (a ∷ x) (b ∷ u) y v e = rw (same-parts x u y v (omega arith)) (by-test (eqb a b) (λ q. rw q refl) (λ q. rw q refl))
-
 -- ---- an entry block in its parts
 -- some bytes of it, one by one
 three-of : (s : List ℕ) (i : ℕ) → i + 3 ≤ length s → take 3 (drop i s) ≡ getD s i 0 ∷ getD s (suc i) 0 ∷ getD s (suc (suc i)) 0 ∷ []
@@ -281,16 +273,16 @@ module _ (s : List ℕ) (n b : ℕ) where
       let z : List ℕ = replicate 214 0 in
       let nums : List ℕ = le2 (wordAt s 37) ++ le3 (sizeIn s) in
       let e₄ : same (take 5 (drop 37 s) ++ take 214 (drop 42 s)) (nums ++ z) ≡ all (λ b. eqb b 0) (take 214 (drop 42 s)) =
-      same-parts (take 5 (drop 37 s)) nums (take 214 (drop 42 s)) z (rw (length-take, length-drop) (omega arith)) ∙ rw (numbers-same s h g, rest-same s h) refl in
+      same-append (take 5 (drop 37 s)) (take 214 (drop 42 s)) nums z (rw (length-take, length-drop) (omega arith)) ∙ rw (numbers-same s h g, rest-same s h) refl in
       let e₃ : same (take 30 (drop 7 s) ++ (take 5 (drop 37 s) ++ take 214 (drop 42 s))) (padded 30 name ++ (nums ++ z)) ≡ blankEntry s =
-      same-parts (take 30 (drop 7 s)) (padded 30 name) _ _ (rw (length-take, length-drop, length-padded 30 name l) (omega arith))
+      same-append (take 30 (drop 7 s)) _ (padded 30 name) _ (rw (length-take, length-drop, length-padded 30 name l) (omega arith))
       ∙ rw (name-same s h m (omega arith), e₄) refl in
       let u : List ℕ = take 30 (drop 7 s) ++ (take 5 (drop 37 s) ++ take 214 (drop 42 s)) in
       let v : List ℕ = padded 30 name ++ (nums ++ z) in
       let w : List ℕ = getD s 4 0 ∷ getD s 5 0 ∷ length name ∷ [] in
       let e₂ : same (take 3 (drop 4 s) ++ u) (w ++ v) ≡ blankEntry s =
-      same-parts (take 3 (drop 4 s)) w u v (rw (length-take, length-drop) (omega arith)) ∙ rw (fields-same s h (length name) i, e₃) refl in
-      let e₁ = same-parts (take 4 s) (le2 x ++ le2 y) (take 3 (drop 4 s) ++ u) (w ++ v) (rw length-take (omega arith)) ∙ ap (λ (t : Bool). same (take 4 s) (le2 x ++ le2 y) && t) e₂ in
+      same-append (take 3 (drop 4 s)) u w v (rw (length-take, length-drop) (omega arith)) ∙ rw (fields-same s h (length name) i, e₃) refl in
+      let e₁ = same-append (take 4 s) (take 3 (drop 4 s) ++ u) (le2 x ++ le2 y) (w ++ v) (rw length-take (omega arith)) ∙ ap (λ (t : Bool). same (take 4 s) (le2 x ++ le2 y) && t) e₂ in
       rw (a, block-is s h, due-parts x y (sizeIn s) (entryIn s []) l) e₁
 
   -- its returns
@@ -346,7 +338,7 @@ module _ (s : List ℕ) (b size next : ℕ) (e : next ≡ cond (leb size 254) 0 
       let ly : length y ≡ 254 = rw (length-take, length-drop) (omega arith) in
       let z : 254 - length (take size y) ≡ length y - length (take size y) = omega arith in
       rw (e, low-byte L, high-byte L, take-add 2 254 s, z)
-      (same-parts (take 2 s) (L % 256 ∷ L / 256 % 256 ∷ []) y (take size y ++ replicate (length y - length (take size y)) 0) (rw length-take (omega arith))
+      (same-append (take 2 s) y (L % 256 ∷ L / 256 % 256 ∷ []) (take size y ++ replicate (length y - length (take size y)) 0) (rw length-take (omega arith))
       ∙ rw (same-front size y) refl)
 
   module _ (p y x : List ℕ) (t : Bool) (h : 256 ≤ length s) (q : p ≡ take 2 (drop 0 s)) (o : t ≡ same p (next % 256 ∷ next / 256 % 256 ∷ [])) where

@@ -7,7 +7,7 @@ use borrow.Author.Tests.{ne-eqb}
 use lib.Dec.{eqb}
 use lib.ListN.{take, drop}
 use Rattle.lists.specs.Select.{all, any}
-use Rattle.lists.proofs.Split.{by-test, clash}
+use Rattle.lists.proofs.Split.{by-test, clash, and-assoc, and-true}
 use Rattle.outcome.specs.declared.Refusal.the-variants.{Absent}
 use Rattle.outcome.specs.Outcome.{Outcome, refused, given}
 use Rattle.nibble.specs.Nibble.{decode}
@@ -114,14 +114,6 @@ or-swap true true c d = refl
 or-swap true false c d = refl
 or-swap false true c d = refl
 or-swap false false c d = refl
-
-and-assoc : (a b c : Bool) → (a && (b && c)) ≡ ((a && b) && c)
-and-assoc true b c = refl
-and-assoc false b c = refl
-
-and-true : (a : Bool) → (a && true) ≡ a
-and-true true = refl
-and-true false = refl
 
 sums-more : (f : Field) (xs seen : List Field)
     → sumsOk (firsts seen (xs ++ (f ∷ []))) ≡ (sumsOk (firsts seen xs) && (any (sameKey f) xs || (any (sameKey f) seen || sumOk (f .nibbles))))

@@ -17,8 +17,7 @@ use Rattle.lists.specs.Fill.{tab, below, cats, put, placed}
 use Rattle.lists.specs.Select.{all, any}
 use Rattle.lists.proofs.Blocks.{Blocks, blocks-none, blocks-step, blocks-done, length-cats}
 use Rattle.lists.proofs.Chunks.{chunk-cats}
-use Rattle.lists.proofs.Placed.{placed-put}
-use Rattle.lists.proofs.Put.{put-is, put-front}
+use Rattle.lists.proofs.Put.{put-is, put-front, placed-put}
 use Rattle.lists.proofs.Split.{by-lt, by-test, both-true, clash}
 use Rattle.lists.proofs.Table.{test-at}
 use Rattle.outcome.specs.declared.Handed.{Handed}
@@ -398,7 +397,7 @@ decoding-turn s at o₀ o p d k w h room e q =
     let l : getD at k 0 + 343 - getD at k 0 ≡ 343 = omega arith in
     let u : d ≡ heldAt s at k = rw l at e in
     let m : length d ≡ 256 = ap length u ∙ length-held s at k in
-    let g : p ≡ put (256 * k) (heldAt s at k) o = placed-put (256 * k) d o p q (omega (arith, w .long)) .is ∙ rw u refl in
+    let g : p ≡ put (256 * k) (heldAt s at k) o = placed-put q (omega (arith, w .long)) .is ∙ rw u refl in
     let b : Blocks (heldAt s at) 0 (k + 1) o₀ p = blocks-step 256 (256 * k) (length-held s at) (w .blocks) g (omega arith) (omega arith) in
     record { count = omega arith; long = b .puts .long; blocks = b }
 

@@ -12,8 +12,7 @@ use lib.Dec.{eqb}
 use lib.ListN.{length, take, drop}
 use Rattle.lists.specs.Fill.{placed}
 use Rattle.lists.specs.Select.{all, any}
-use Rattle.lists.proofs.Put.{put-front}
-use Rattle.lists.proofs.Placed.{placed-put}
+use Rattle.lists.proofs.Put.{put-front, placed-put}
 use Rattle.lists.proofs.Split.{by-test, clash}
 use Rattle.outcome.specs.declared.Handed.{Handed}
 use Rattle.outcome.specs.declared.Refusal.the-variants.{AddressSum, DataSum, Absent}
@@ -238,7 +237,7 @@ module _ (s out : List ℕ) (o : Outcome (List ℕ)) (f : Located) (w : Locates 
         let l : length b ≡ 256 = length-decode (take 343 (drop (f .nibbles) s)) in
         let u : d ≡ b = rw k at e in
         let m : after ≡ placed 0 b out = q ∙ rw u refl in
-        hands-over o out after b (w .place-is z) (rw l room) (put-front (placed-put 0 b out after m (omega arith))) h (rw l r)
+        hands-over o out after b (w .place-is z) (rw l room) (put-front (placed-put m (omega arith))) h (rw l r)
 
     pub sector-end : length s * 1 < 2 ^ 63 → Fits w64 (f .nibbles + 343)
     sector-end g = record { fits = omega (arith, w .within z) }

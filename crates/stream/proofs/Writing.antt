@@ -11,8 +11,7 @@ use lib.Bits.{bitXor}
 use lib.ListN.{length, getD, take, drop, replicate, length-drop}
 use lib.Seq.{length-take-le}
 use Rattle.lists.specs.Fill.{put, placed, cats}
-use Rattle.lists.proofs.Put.{Put, put-is-front, put-more, put-part, put-is, put-front}
-use Rattle.lists.proofs.Placed.{placed-put}
+use Rattle.lists.proofs.Put.{Put, put-is-front, put-more, put-part, put-is, put-front, placed-put}
 use Rattle.lists.proofs.Blocks.{Blocks, blocks-none, blocks-step, blocks-done, length-cats}
 use Rattle.outcome.specs.declared.Handed.{Handed}
 use Rattle.outcome.specs.declared.Refusal.the-variants.{OffSize}
@@ -68,10 +67,10 @@ pub sector-put : (s : List ℕ) (at v t p : ℕ) (o₀ : List ℕ) {r : Handed} 
     → o₆ ≡ put at (replicate 48 255 ++ sectorWriting v t p s) o₀
 unfolding addressWriting
 sector-put s at v t p o₀ {r} {o₁} {o₂} {o₃} {o₄} {q} {o₆} hs room e₁ e₂ e₃ e₄ h e₆ =
-    let p₁ = placed-put at (replicate 48 255) o₀ o₁ e₁ (omega arith) in
-    let p₂ = put-more p₁ (placed-put (at + 48) (addressWriting v t p) o₁ o₂ e₂ (omega (arith, p₁ .long))) refl (omega arith) in
-    let p₃ = put-more p₂ (placed-put (at + 62) (replicate 5 255) o₂ o₃ e₃ (omega (arith, p₂ .long))) (omega arith) (omega arith) in
-    let p₄ = put-more p₃ (placed-put (at + 67) (0xD5 ∷ 0xAA ∷ 0xAD ∷ []) o₃ o₄ e₄ (omega (arith, p₃ .long))) (omega arith) (omega arith) in
+    let p₁ = placed-put e₁ (omega arith) in
+    let p₂ = put-more p₁ (placed-put e₂ (omega (arith, p₁ .long))) refl (omega arith) in
+    let p₃ = put-more p₂ (placed-put e₃ (omega (arith, p₂ .long))) (omega arith) (omega arith) in
+    let p₄ = put-more p₃ (placed-put e₄ (omega (arith, p₃ .long))) (omega arith) (omega arith) in
     let a : ℕ = at + 70 in
     let k : ℕ = length o₄ - a in
     let lm : length (midOf a k o₄) ≡ k = length-take-le k (drop a o₄) (rw length-drop (le-refl k)) in
@@ -80,7 +79,7 @@ sector-put s at v t p o₀ {r} {o₁} {o₂} {o₃} {o₄} {q} {o₆} hs room e�
     let w : q ≡ encode s ++ drop (length (encode s)) (midOf a k o₄) = hands-left (encode s) h (encoded-given s hs) (omega arith) in
     let g : Put 0 (encode s) (midOf a k o₄) q = put-is-front 343 (rw le at w) le fit in
     let p₅ = put-more {i = a} p₄ (put-part a k g (omega arith) (omega arith) (omega arith)) (omega arith) (omega arith) in
-    let p₆ = put-more p₅ (placed-put (at + 413) (0xDE ∷ 0xAA ∷ 0xEB ∷ []) (putMid a k o₄ q) o₆ e₆ (omega (arith, p₅ .long))) (omega arith) (omega arith) in
+    let p₆ = put-more p₅ (placed-put e₆ (omega (arith, p₅ .long))) (omega arith) (omega arith) in
     p₆ .is ∙ ap (λ (x : List ℕ). put at x o₀) (whole v t p s)
 
 pub ruleset sectors = (sector-put, needs)

@@ -12,7 +12,8 @@ use Rattle.lists.specs.Every.{Every, none, more}
 use Rattle.lists.specs.Fill.{below}
 use Rattle.lists.specs.Same.{same}
 use Rattle.lists.specs.Select.{filter}
-use Rattle.lists.proofs.Split.{by-test}
+use Rattle.lists.proofs.Equal.{same-append}
+use Rattle.lists.proofs.Split.{by-test, and-assoc, and-true}
 use Rattle.lists.proofs.Select.{onward, onward-next, onward-end, length-onward, filter-every}
 use Rattle.lists.proofs.Chunks.{every-append, flatMap-append, length-chunks}
 use Rattle.lists.proofs.Put.{Put, put-none, put-more, placed-put}
@@ -160,25 +161,10 @@ written a s (more {x = y} {xs = bs} l e) h =
     put-more p r (omega arith) (omega (arith, p .long))
 
 -- ---- a pass that compares tells whether they are equal
-same-append : (u v x y : List ℕ) → length u ≡ length x → same (u ++ v) (x ++ y) ≡ (same u x && same v y)
-unfolding same
-same-append [] v [] y e = refl
-same-append [] v (b ∷ x) y e = absurd (omega arith)
-same-append (c ∷ u) v [] y e = absurd (omega arith)
-same-append (c ∷ u) v (b ∷ x) y e = let h = same-append u v x y (omega arith) in by-test (eqb c b) (λ z. rw (z, h) refl) (λ z. rw z refl)
-
-and-assoc : (a b c : Bool) → ((a && b) && c) ≡ (a && (b && c))
-and-assoc true b c = refl
-and-assoc false b c = refl
-
-and-true : (a : Bool) → a ≡ (a && true)
-and-true true = refl
-and-true false = refl
-
 compared : (a : List ℕ) (s : Pass) {bs : List (List ℕ)} → Long bs → 256 * (s .block + length bs) ≤ length a
     → foldl (stepped false a) s bs .good ≡ (s .good && same (joined bs) (take (256 * length bs) (drop (256 * s .block) a)))
 unfolding flatMap stepped same
-compared a s none h = and-true (s .good)
+compared a s none h = sym (and-true (s .good))
 compared a s (more {x = y} {xs = bs} l e) h =
     let t : Pass = stepped false a s y in
     let r : List ℕ = drop (256 * s .block) a in
@@ -188,7 +174,7 @@ compared a s (more {x = y} {xs = bs} l e) h =
     let n : 256 * (s .block + 1) ≡ 256 * s .block + 256 = omega arith in
     let k : drop (256 * (s .block + 1)) a ≡ drop 256 r = rw n (sym (drop-drop 256 (256 * s .block) a)) in
     let q : length (take 256 r) ≡ 256 = rw (length-take, length-drop) (omega arith) in
-    i ∙ rw k (and-assoc (s .good) (same y (take 256 r)) (same (joined bs) (take (256 * length bs) (drop 256 r))))
+    i ∙ rw k (sym (and-assoc (s .good) (same y (take 256 r)) (same (joined bs) (take (256 * length bs) (drop 256 r)))))
     ∙ ap (λ (x : Bool). s .good && x) (sym (ap (same (y ++ joined bs)) c ∙ same-append y (joined bs) (take 256 r) (take (256 * length bs) (drop 256 r)) (omega arith)))
 
 -- ---- the whole

@@ -30,7 +30,7 @@ use Rattle.files.proofs.Order.{file-given}
 use Rattle.files.proofs.Proper.{all-long, bytesIn-binary}
 use Rattle.files.proofs.Adds.{front-name}
 use Rattle.files.proofs.Sums.{stated, first}
-use Rattle.files.proofs.Datas.{cut-4, joined-lists}
+use Rattle.files.proofs.Datas.{cut-nil, cut-4, joined-lists}
 use Rattle.writer.specs.declared.Mark.{Mark}
 use Rattle.writer.specs.Passes.{Pass, passOf, sectorAt, sizeBy, startBy, statedIn, collected, fileWith, withFile, withEntry, Made, Sectors, Has, spot, startOf}
 
@@ -93,10 +93,6 @@ module _ (n : ℕ) (d : List ℕ) where
     unfolding flatMap
     first-word [] a h = omega arith
     first-word (p ∷ ps) a h = rw (stated n d size p ps (first n d size p ps a)) h
-
--- nothing is taken of nothing
-cut-none : (size skip : ℕ) → cutOf size skip [] ≡ []
-cut-none size skip = rw (drop-nil {A = ℕ} skip, take-nil {A = ℕ} size) refl
 
 -- ---- the file of an entry
 -- an entry as it was read, with the bytes of its file, is its file
@@ -215,7 +211,7 @@ module _ (n : ℕ) (d : List ℕ) (x : ℕ) (a : Has n d (entryFrom d x)) where
     entry-other k z r o′ u =
         let t : entryFrom d x .kind ≡ 4 → ⊥ = λ i. k (ap (λ (j : FileEntry). j .«file_type») q ∙ i) in
         let s : ℕ = statedIn d z in
-        let c : collected d z 0 ≡ [] = cut-none (sizeBy 0 s) (startBy 0 s) in
+        let c : collected d z 0 ≡ [] = cut-nil (sizeBy 0 s) (startBy 0 s) in
         entry-made (collected d z 0) (c ∙ sym (bytes-are ∙ bytesIn-binary (entryFrom d x .kind) (flatMap (bytesOf n d) ps) t)) r o′ u
 
     pub entry-binary : e .«file_type» ≡ 4 → (z c : List ℕ) (k : ℕ) → z ≡ replicate 257 0 → CopiedAll 257 (walkOf n d (startOf n) (e .list)) (spot 0) z c (spot k)
