@@ -30,6 +30,7 @@ use print::refusal;
 use print::right;
 use print::text;
 use sums::after;
+use sums::next;
 use walk::poke;
 
 // The commands.
@@ -348,11 +349,7 @@ fn first_difference(a: &[u8], b: &[u8]) -> usize {
 // Where an archive differs from that of the disk.
 fn tell_difference(due: &[u8], archive: &[u8]) {
     let i = first_difference(due, archive);
-    tell(b", the archive of this disk has ");
-    number(STDERR_FILENO, due.len() as u64);
-    tell(b" bytes, this one ");
-    number(STDERR_FILENO, archive.len() as u64);
-    tell(b"; they differ from block ");
+    tell(b", the archives differ from block ");
     number(STDERR_FILENO, (i / 256) as u64);
     tell(b", byte ");
     number(STDERR_FILENO, (i % 256) as u64);
@@ -459,17 +456,20 @@ fn show_entry(archive: &[u8], block: u64, e: reader::Entry) {
     say(b"\n");
 }
 
-// Steps through the entries of an archive that was opened.
-fn show_entries(archive: &[u8], start: u64) {
+// Steps through the entries of an archive that was opened: how many these are.
+fn show_entries(archive: &[u8], start: u64) -> u64 {
     let mut block = start;
+    let mut n: u64 = 0;
     for k in 0..4096u16 {
         if block == 0 {
-            return;
+            return n;
         }
         let e = reader::next_entry(archive, block);
         show_entry(archive, block, e);
         block = e.next as u64;
+        n = next(n);
     }
+    n
 }
 
 fn show(from: &[u8], archive: &[u8]) -> u8 {
@@ -486,7 +486,9 @@ fn show(from: &[u8], archive: &[u8]) -> u8 {
     count(STDOUT_FILENO, o.blocks as u64, b"block", b"blocks");
     say(b"\n\n");
     heads(STDOUT_FILENO);
-    show_entries(archive, o.first as u64);
+    let n = show_entries(archive, o.first as u64);
+    say(b"\n");
+    count(STDOUT_FILENO, n, b"file", b"files");
     finish(b"\n")
 }
 
@@ -554,7 +556,7 @@ fn other_command(w: &[u8]) -> u8 {
     0
 }
 
-// What a command wants behind it, for people and in number.
+// How many words a command wants behind it.
 fn wants(command: u8) -> usize {
     match command {
         LIST | SURVEY | MAP | SHOW => 1,
@@ -574,19 +576,32 @@ fn words(first: usize) -> usize {
     n
 }
 
-fn bad_usage(s: &[u8]) -> u8 {
-    tell(s);
+fn unknown_command(w: &[u8]) -> u8 {
+    if 0 < w.len() {
+        tell(b"linefiles: there is no command ");
+        path(STDERR_FILENO, w);
+        tell(b"\n\n");
+    }
     print_help(STDERR_FILENO);
     TROUBLE
 }
 
-fn unknown_command(w: &[u8]) -> u8 {
-    if w.len() == 0 {
-        return bad_usage(b"");
+// What stands behind a command.
+fn usage(command: u8) -> u8 {
+    tell(b"usage: linefiles ");
+    match command {
+        LIST => tell(b"list DISK"),
+        SURVEY => tell(b"survey DISK"),
+        MAP => tell(b"map DISK"),
+        GET => tell(b"get DISK NAME OUT [--force]"),
+        ARCHIVE => tell(b"archive DISK OUT [--force]"),
+        CHECK => tell(b"check DISK ARCHIVE"),
+        SHOW => tell(b"show ARCHIVE"),
+        NIBBLIZE => tell(b"nibblize DISK OUT [--force]"),
+        _ => tell(b"denibblize STREAM OUT [--force]"),
     }
-    tell(b"linefiles: there is no command ");
-    path(STDERR_FILENO, w);
-    bad_usage(b"\n\n")
+    tell(b"\n       linefiles help says what it does\n");
+    TROUBLE
 }
 
 // Runs the command that stands among the arguments at `first`.
@@ -602,9 +617,7 @@ fn run(first: usize) -> u8 {
         return finish(b"");
     }
     if words(first) != wants(command) {
-        tell(b"linefiles: ");
-        tell(&w[..n]);
-        return bad_usage(b" wants other words behind it\n\n");
+        return usage(command);
     }
     act(command, first)
 }

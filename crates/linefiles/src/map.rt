@@ -172,13 +172,10 @@ fn legends(disk: &[u8], uses: &[u8]) {
         disk,
         uses,
         b'#',
-        b"in no chain, yet used in the map (DOS itself, or lost)",
+        b"used in the map, in no chain: DOS itself, or lost",
     );
     right(STDOUT_FILENO, count_letter(disk, uses, 0, true), 6);
-    text(
-        STDOUT_FILENO,
-        b"   small letter   in a chain, yet free in the map\n",
-    );
+    text(STDOUT_FILENO, b"       small letters: in a chain, free in the map");
 }
 
 // Draws the map of a disk that is not refused.
@@ -188,7 +185,7 @@ pub fn draw(disk: &[u8]) {
     give_pages(disk, &mut uses);
     text(
         STDOUT_FILENO,
-        b"\n track   sector 0-9 A-F\n         0123456789ABCDEF\n",
+        b"\n track   sector\n         0123456789ABCDEF\n",
     );
     rows(disk, &uses);
     text(STDOUT_FILENO, b"\n");

@@ -54,7 +54,7 @@ pub fn poke(bytes: &mut [u8], at: usize, v: u8) {
 fn last_link(disk: &[u8], p: Place) {
     let q = link_of(disk, 16, p);
     if (q.track.0 != 0) | (q.sector.0 != 0) {
-        text(STDOUT_FILENO, b" (its link is ");
+        text(STDOUT_FILENO, b" (link ");
         place(STDOUT_FILENO, q);
         text(STDOUT_FILENO, b")");
     }
@@ -213,7 +213,7 @@ fn pairs_in(disk: &[u8], p: Place) -> u64 {
 }
 
 fn list_line(disk: &[u8], p: Place) {
-    text(STDOUT_FILENO, b"       list ");
+    text(STDOUT_FILENO, b"                                list ");
     place_column(STDOUT_FILENO, p);
     let n = pairs_in(disk, p);
     right(STDOUT_FILENO, n, 3);
@@ -280,7 +280,6 @@ fn link_stop(disk: &[u8], p: Place, entries: u64, e: FileEntry) {
     place(STDERR_FILENO, p);
     text(STDERR_FILENO, b" leads to ");
     place(STDERR_FILENO, link_of(disk, 16, p));
-    text(STDERR_FILENO, b": a track and no sector");
 }
 
 fn at_list(
