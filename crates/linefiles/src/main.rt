@@ -444,7 +444,7 @@ fn on_disk(command: u8, from: &[u8], bytes: &[u8], first: usize, force: bool) ->
         say_input(from, b"flat disk", bytes.len() as u64);
         return on_flat(command, bytes, first, force);
     }
-    say_input(from, b"nibble stream", bytes.len() as u64);
+    say_input(from, b"taken as a nibble stream", bytes.len() as u64);
     on_stream(command, bytes, first, force)
 }
 

@@ -175,7 +175,10 @@ fn legends(disk: &[u8], uses: &[u8]) {
         b"used in the map, in no chain: DOS itself, or lost",
     );
     right(STDOUT_FILENO, count_letter(disk, uses, 0, true), 6);
-    text(STDOUT_FILENO, b"       small letters: in a chain, free in the map");
+    text(
+        STDOUT_FILENO,
+        b"       small letters: in a chain, free in the map",
+    );
 }
 
 // Draws the map of a disk that is not refused.
