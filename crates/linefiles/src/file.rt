@@ -115,7 +115,7 @@ fn fill(fd: i32, path: &[u8], bytes: &[u8]) -> bool {
 fn save_by(part: &[u8], path: &[u8], bytes: &[u8], force: bool) -> bool {
     let fd = os::create(part);
     if fd < 0 {
-        cannot(b"make", part);
+        cannot(b"write", path);
         return false;
     }
     if fill(fd, path, bytes) {

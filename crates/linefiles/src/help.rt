@@ -1,67 +1,94 @@
 // The help text.
+use crate::print::left;
 use crate::print::text;
+
+fn row(fd: i32, command: &[u8], what: &[u8]) {
+    text(fd, b"  linefiles ");
+    left(fd, command, 23);
+    text(fd, what);
+    text(fd, b"\n");
+}
+
+fn line(fd: i32, s: &[u8]) {
+    text(fd, s);
+    text(fd, b"\n");
+}
+
+fn rows(fd: i32) {
+    row(
+        fd,
+        b"list DISK",
+        b"the files, and each link followed to them",
+    );
+    row(
+        fd,
+        b"survey DISK",
+        b"volume, entries, sectors, archive blocks, links",
+    );
+    row(fd, b"map DISK", b"35 tracks by 16 sectors as a picture");
+    row(
+        fd,
+        b"get DISK NAME OUT",
+        b"write the bytes of a file to OUT",
+    );
+    row(
+        fd,
+        b"archive DISK OUT",
+        b"write the archive (return) of the disk to OUT",
+    );
+    row(
+        fd,
+        b"check DISK ARCHIVE",
+        b"whether it is the archive of the disk",
+    );
+    row(
+        fd,
+        b"show ARCHIVE",
+        b"the entries of an archive, without a disk",
+    );
+    row(
+        fd,
+        b"nibblize DISK OUT",
+        b"write the disk as a nibble stream to OUT",
+    );
+    row(
+        fd,
+        b"denibblize STREAM OUT",
+        b"write the disk that a stream holds to OUT",
+    );
+    row(fd, b"help", b"this text");
+}
+
+fn notes(fd: i32) {
+    line(
+        fd,
+        b"DISK is a flat image of 143360 bytes; a file of any other length is taken as a",
+    );
+    line(
+        fd,
+        b"nibble stream. OUT is not overwritten unless --force is said.",
+    );
+    line(
+        fd,
+        b"NAME is as `list` shows it: \\xHH is a byte in hexadecimal, \\\\ a backslash.",
+    );
+    line(
+        fd,
+        b"Types: T text, I Integer BASIC, A Applesoft BASIC, B Binary, S, R relocatable,",
+    );
+    line(fd, b"AT, BT, U unknown. Only a Binary hands over bytes.");
+    line(
+        fd,
+        b"Exit status: 0 good, 1 refused, 2 bad usage or a file that cannot be used.",
+    );
+}
 
 pub fn print_help(fd: i32) {
     text(
         fd,
         b"linefiles: the line files on an Apple DOS 3.3 disk\n\n",
     );
-    text(
-        fd,
-        b"  linefiles list DISK              the files, and each link followed to them\n",
-    );
-    text(
-        fd,
-        b"  linefiles survey DISK            volume, entries, free, used, archive blocks\n",
-    );
-    text(
-        fd,
-        b"  linefiles map DISK               35 tracks by 16 sectors as a picture\n",
-    );
-    text(
-        fd,
-        b"  linefiles get DISK NAME OUT      write the bytes of a file to OUT\n",
-    );
-    text(
-        fd,
-        b"  linefiles archive DISK OUT       write the archive (return) of the disk to OUT\n",
-    );
-    text(
-        fd,
-        b"  linefiles check DISK ARCHIVE     is this the archive of the disk?\n",
-    );
-    text(
-        fd,
-        b"  linefiles show ARCHIVE           the entries of an archive, without a disk\n",
-    );
-    text(
-        fd,
-        b"  linefiles nibblize DISK OUT      write the disk as a nibble stream to OUT\n",
-    );
-    text(
-        fd,
-        b"  linefiles denibblize STREAM OUT  write the disk that a stream holds to OUT\n",
-    );
-    text(fd, b"  linefiles help                   this text\n\n");
-    text(
-        fd,
-        b"DISK is a flat image of 143360 bytes; a file of any other length is taken as a\n",
-    );
-    text(
-        fd,
-        b"nibble stream. OUT is not overwritten unless --force is said.\n",
-    );
-    text(
-        fd,
-        b"NAME is as `list` shows it: \\xHH is a byte in hexadecimal, \\\\ a backslash.\n",
-    );
-    text(
-        fd,
-        b"Types: T text, I Integer BASIC, A Applesoft BASIC, B Binary, S, R relocatable,\n",
-    );
-    text(fd, b"AT, BT, U unknown. Only a Binary hands over bytes.\n");
-    text(
-        fd,
-        b"Exit status: 0 good, 1 refused, 2 bad usage or a file that cannot be used.\n",
-    );
+    rows(fd);
+    text(fd, b"\n");
+    notes(fd);
 }

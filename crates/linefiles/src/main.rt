@@ -116,7 +116,7 @@ fn refuse_overlong(blocks: u64) -> u8 {
 }
 
 // The links of the VTOC and the pages, then the files with their lists.
-fn list_links(disk: &[u8], good: bool, archive: &[u8]) {
+fn list_links(disk: &[u8], fetch: bool, archive: &[u8]) {
     let v = disk::parse_volume_table_of_contents(disk);
     say(b"\nCatalog\n  VTOC 17/0     volume ");
     number(STDOUT_FILENO, v.diskette_volume_number as u64);
@@ -131,7 +131,7 @@ fn list_links(disk: &[u8], good: bool, archive: &[u8]) {
     if walk::follow_pages(disk, 0) == 0 {
         say(b"\nFiles\n");
         heads(STDOUT_FILENO);
-        walk::follow_files(disk, 0, good, archive);
+        walk::follow_files(disk, 0, fetch, archive);
     }
 }
 
@@ -155,6 +155,11 @@ fn list_end(disk: &[u8], entries: u64, links: u64) -> u8 {
     finish(b"\n")
 }
 
+// Whether each file of a disk may be fetched, which follows all links for each entry.
+fn may_fetch(refused: u8, entries: u32, links: u64) -> bool {
+    (refused == 0) & (links <= 4000000 / (entries as u64 + 1))
+}
+
 fn list(disk: &[u8]) -> u8 {
     let s = files::survey(disk);
     if s.refusal == NO_TABLE {
@@ -162,7 +167,11 @@ fn list(disk: &[u8]) -> u8 {
     }
     let mut out = space();
     let h = writer::write_archive(disk, &mut out);
-    list_links(disk, s.refusal == 0, lists::part(&out, 0, h.length));
+    list_links(
+        disk,
+        may_fetch(s.refusal, s.entries, s.links),
+        lists::part(&out, 0, h.length),
+    );
     if s.refusal != 0 {
         return refuse(disk, s.refusal);
     }
@@ -249,7 +258,7 @@ fn unescape(s: &[u8], out: &mut [u8]) -> usize {
     31
 }
 
-// The word at place k behind the command, `--force` left out, into buf: its length.
+// Word k from the command on, which is word 0, into buf: its length. `--force` is left out.
 fn word(first: usize, k: usize, buf: &mut [u8]) -> usize {
     let i = word_place(first, k);
     os::arg(i, buf)
@@ -474,12 +483,14 @@ fn show_entries(archive: &[u8], start: u64) -> u64 {
 
 fn show(from: &[u8], archive: &[u8]) -> u8 {
     let o = reader::open(archive);
-    say_input(from, b"archive", archive.len() as u64);
     if o.refusal != 0 {
         refusal(STDERR_FILENO, o.refusal);
-        tell(b", these bytes are the archive of no disk\n");
+        tell(b", these ");
+        count(STDERR_FILENO, archive.len() as u64, b"byte", b"bytes");
+        tell(b" are the archive of no disk\n");
         return REFUSED;
     }
+    say_input(from, b"archive", archive.len() as u64);
     say(b"\nVolume ");
     number(STDOUT_FILENO, o.volume as u64);
     say(b", ");
@@ -607,10 +618,10 @@ fn usage(command: u8) -> u8 {
 // Runs the command that stands among the arguments at `first`.
 fn run(first: usize) -> u8 {
     let mut w = io::buffer();
-    let n = os::arg(first, &mut w);
-    let command = command_of(&w[..n]);
+    let n = word(first, 0, &mut w);
+    let command = command_of(lists::part(&w, 0, n));
     if command == 0 {
-        return unknown_command(&w[..n]);
+        return unknown_command(lists::part(&w, 0, n));
     }
     if command == HELP {
         print_help(STDOUT_FILENO);

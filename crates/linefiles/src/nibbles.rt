@@ -55,7 +55,7 @@ fn wrong_data(s: &[u8], p: FieldPair, seen: &[u8]) -> bool {
     nibble::data_sum(lists::part(s, p.nibbles, 343)) != 0
 }
 
-fn told_field(p: FieldPair) {
+fn tell_field(p: FieldPair) {
     text(STDERR_FILENO, b"volume ");
     number(STDERR_FILENO, p.volume as u64);
     text(STDERR_FILENO, b", track ");
@@ -72,12 +72,12 @@ fn tell_address(s: &[u8], i: usize) {
 fn tell_stranger(s: &[u8], i: usize, p: FieldPair) {
     tell_address(s, i);
     text(STDERR_FILENO, b" says ");
-    told_field(p);
+    tell_field(p);
 }
 
 fn tell_data(p: FieldPair) {
     text(STDERR_FILENO, b", the data of ");
-    told_field(p);
+    tell_field(p);
     text(STDERR_FILENO, b" at byte ");
     number(STDERR_FILENO, p.nibbles as u64);
 }
@@ -138,10 +138,12 @@ fn count_absent(seen: &[u8]) -> u64 {
     n
 }
 
-fn tell_absent(seen: &[u8]) {
+fn tell_absent(s: &[u8], seen: &[u8]) {
     let n = count_absent(seen);
     if n == 560 {
-        text(STDERR_FILENO, b", there is no sector in it");
+        text(STDERR_FILENO, b", no sector is in these ");
+        number(STDERR_FILENO, s.len() as u64);
+        text(STDERR_FILENO, b" bytes (a flat disk has 143360)");
         return;
     }
     let k = first_absent(seen);
@@ -164,6 +166,6 @@ pub fn tell(s: &[u8], why: u8) {
     let first = parse_nib_sector(s, 0);
     tell_pairs(s, why, first.volume, &mut seen);
     if why == ABSENT {
-        tell_absent(&seen);
+        tell_absent(s, &seen);
     }
 }

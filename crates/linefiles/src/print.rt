@@ -33,6 +33,12 @@ pub fn right(fd: i32, n: u64, width: usize) {
     text(fd, &digits[..k]);
 }
 
+// Text at the left edge of a column.
+pub fn left(fd: i32, s: &[u8], width: usize) {
+    text(fd, s);
+    spaces(fd, rest(width, s.len()));
+}
+
 // How many digits a byte has.
 fn digits_of(n: u8) -> usize {
     if n < 10 {
@@ -122,6 +128,9 @@ pub fn name(fd: i32, s: &[u8]) {
 
 // A path: the same, but bytes above 7Fh stay, which are letters in most of the world.
 pub fn path(fd: i32, s: &[u8]) {
+    if s.len() == 0 {
+        text(fd, b"''");
+    }
     shown(fd, s, 255);
 }
 
@@ -168,9 +177,9 @@ fn word(fd: i32, w: outcome::Word) {
 }
 
 // The front of a refusal: the paper's number and word.
-pub fn refusal(fd: i32, number_of: u8) {
+pub fn refusal(fd: i32, why: u8) {
     text(fd, b"refused: ");
-    number(fd, number_of as u64);
+    number(fd, why as u64);
     text(fd, b" ");
-    word(fd, outcome::refusal_word(number_of));
+    word(fd, outcome::refusal_word(why));
 }

@@ -134,7 +134,6 @@ fn bad_link(refusal: u8, what: &[u8], to: Place) {
     }
     text(STDERR_FILENO, b" leads to ");
     place(STDERR_FILENO, to);
-    text(STDERR_FILENO, b", which is not on the disk");
 }
 
 // The place where the walk along the pages stops. `from` is the VTOC if no page was read.
@@ -145,7 +144,7 @@ fn page_stop(disk: &[u8], refusal: u8, pages: u16, from: Place, to: Place) {
         place(STDERR_FILENO, to);
         text(STDERR_FILENO, b", entry ");
         number(STDERR_FILENO, next(i as u64));
-        text(STDERR_FILENO, b" of 7: the byte 80h in the name ");
+        text(STDERR_FILENO, b": ");
         let e = parse_file_entry(disk, entry_start(16, to, i));
         shown_name(STDERR_FILENO, e.name);
         return;
@@ -253,7 +252,7 @@ fn link_refusal(disk: &[u8], p: Place) -> u8 {
 }
 
 // The entry in which a refusal is met.
-fn told_entry(entries: u64, e: FileEntry) {
+fn tell_entry(entries: u64, e: FileEntry) {
     text(STDERR_FILENO, b", file ");
     number(STDERR_FILENO, next(entries));
     text(STDERR_FILENO, b" ");
@@ -263,7 +262,7 @@ fn told_entry(entries: u64, e: FileEntry) {
 
 // The place where the walk along the lists stops at a list. `lists` of them were read before.
 fn list_stop(refusal: u8, lists: u16, from: Place, to: Place, entries: u64, e: FileEntry) {
-    told_entry(entries, e);
+    tell_entry(entries, e);
     if lists == 0 {
         text(STDERR_FILENO, b"the entry");
     } else {
@@ -275,7 +274,7 @@ fn list_stop(refusal: u8, lists: u16, from: Place, to: Place, entries: u64, e: F
 
 // The place where it stops at a link.
 fn link_stop(disk: &[u8], p: Place, entries: u64, e: FileEntry) {
-    told_entry(entries, e);
+    tell_entry(entries, e);
     text(STDERR_FILENO, b"list ");
     place(STDERR_FILENO, p);
     text(STDERR_FILENO, b" leads to ");
@@ -355,14 +354,13 @@ fn at_pairs(disk: &[u8], why: u8, p: Place, entries: u64, e: FileEntry) -> u8 {
         return 0;
     }
     if why == OFF_DISC {
-        told_entry(entries, e);
+        tell_entry(entries, e);
         text(STDERR_FILENO, b"pair ");
         number(STDERR_FILENO, next(i as u64));
         text(STDERR_FILENO, b" of list ");
         place(STDERR_FILENO, p);
         text(STDERR_FILENO, b" is ");
         place(STDERR_FILENO, parse_track_sector_pair(disk, 16, p, i));
-        text(STDERR_FILENO, b", which is not on the disk");
     }
     OFF_DISC
 }
@@ -383,13 +381,13 @@ fn follow_pairs(disk: &[u8], why: u8, entries: u64, e: FileEntry) -> u8 {
     0
 }
 
-// The bytes of an entry: as the archive has them; where a good disk has no archive, as the file is handed over; else none are.
-fn bytes_column(disk: &[u8], good: bool, found: reader::Entry, entries: u64) {
+// The bytes of an entry: as the archive has them; where there is no archive, as the file is handed over, if it may be fetched.
+fn bytes_column(disk: &[u8], fetch: bool, found: reader::Entry, entries: u64) {
     if found.found == 1 {
         right(STDOUT_FILENO, found.size as u64, 9);
         return;
     }
-    if good {
+    if fetch {
         let mut out = [0u8; 66000];
         let h = files::file(disk, entries, &mut out);
         right(STDOUT_FILENO, h.length as u64, 9);
@@ -398,9 +396,9 @@ fn bytes_column(disk: &[u8], good: bool, found: reader::Entry, entries: u64) {
     text(STDOUT_FILENO, b"        -");
 }
 
-fn entry_line(disk: &[u8], good: bool, found: reader::Entry, entries: u64, e: FileEntry) {
+fn entry_line(disk: &[u8], fetch: bool, found: reader::Entry, entries: u64, e: FileEntry) {
     entry_columns(STDOUT_FILENO, e.locked, e.file_type, e.count);
-    bytes_column(disk, good, found, entries);
+    bytes_column(disk, fetch, found, entries);
     text(STDOUT_FILENO, b"  ");
     shown_name(STDOUT_FILENO, e.name);
     text(STDOUT_FILENO, b"\n");
@@ -417,14 +415,14 @@ fn follow_file(disk: &[u8], why: u8, entries: u64, e: FileEntry) -> u8 {
 }
 
 // Follows the entry from x on, if it is in use.
-fn follow_entry(disk: &[u8], why: u8, good: bool, archive: &[u8], x: usize, s: Step) -> Step {
+fn follow_entry(disk: &[u8], why: u8, fetch: bool, archive: &[u8], x: usize, s: Step) -> Step {
     if (s.refusal != 0) | !is_live(disk, x) {
         return s;
     }
     let e = parse_file_entry(disk, x);
     let found = reader::next_entry(archive, s.block);
     if why == 0 {
-        entry_line(disk, good, found, s.entries, e);
+        entry_line(disk, fetch, found, s.entries, e);
     }
     let refusal = follow_file(disk, why, s.entries, e);
     Step {
@@ -434,16 +432,16 @@ fn follow_entry(disk: &[u8], why: u8, good: bool, archive: &[u8], x: usize, s: S
     }
 }
 
-fn follow_page(disk: &[u8], why: u8, good: bool, archive: &[u8], p: Place, before: Step) -> Step {
+fn follow_page(disk: &[u8], why: u8, fetch: bool, archive: &[u8], p: Place, before: Step) -> Step {
     let mut s = before;
     for i in 0..7u8 {
-        s = follow_entry(disk, why, good, archive, entry_start(16, p, i), s);
+        s = follow_entry(disk, why, fetch, archive, entry_start(16, p, i), s);
     }
     s
 }
 
 // Follows the entries of all pages, which were followed before: the first refusal met, or 0. `archive` is that of the disk, or empty.
-pub fn follow_files(disk: &[u8], why: u8, good: bool, archive: &[u8]) -> u8 {
+pub fn follow_files(disk: &[u8], why: u8, fetch: bool, archive: &[u8]) -> u8 {
     let mut p = first_page(disk, 16);
     let mut s = Step {
         refusal: 0,
@@ -451,7 +449,7 @@ pub fn follow_files(disk: &[u8], why: u8, good: bool, archive: &[u8]) -> u8 {
         block: 1,
     };
     for k in 0..560u16 {
-        s = follow_page(disk, why, good, archive, p, s);
+        s = follow_page(disk, why, fetch, archive, p, s);
         if last_page(disk, 16, p) {
             return s.refusal;
         }
