@@ -6,6 +6,7 @@ set -u
 export LC_ALL=C
 root=$(cd "$(dirname "$0")/.." && pwd) || exit 2
 expected=$root/test/expected
+"$root/linefiles" help >/dev/null || exit 2 # builds, if need be
 work=$(mktemp -d) || exit 2
 trap 'rm -rf "$work"' EXIT
 cd "$work" || exit 2

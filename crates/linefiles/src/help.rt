@@ -23,7 +23,7 @@ fn rows(fd: i32) {
     row(
         fd,
         b"survey DISK",
-        b"volume, entries, sectors, archive blocks, links",
+        b"volume, entries, free, used, blocks, links",
     );
     row(fd, b"map DISK", b"35 tracks by 16 sectors as a picture");
     row(
