@@ -268,10 +268,13 @@ if [ -w /dev/full ]; then
     "$root/linefiles" list samples/one-page.dsk >/dev/full 2>err
     holds full-output test "$? $(cat err)" = '2 linefiles: cannot write to standard output: No space left on device'
 fi
-if [ "$(id -u)" -ne 0 ]; then
+if [ "$(id -u)" -ne 0 ]; then # root may read and write all
     chmod a-w outs
     same out-read-only archive samples/one-page.dsk outs/new
     chmod u+w outs
+    cp samples/one-page.dsk secret.dsk
+    chmod a-r secret.dsk
+    same unreadable list secret.dsk
 fi
 
 # usage
