@@ -264,9 +264,21 @@ printf '%s\n' 'linefiles: cannot write outs/half: File too large' 'linefiles: ca
 holds half-told diff half.wanted half
 holds half-tidy tidy "folder there "
 holds half-kept test "$(cat outs/there)" = kept
+# full NAME ARGS..: standard output cannot be written, which is told.
+full() {
+    local name=$1
+    shift
+    "$root/linefiles" "$@" >/dev/full 2>err
+    holds "$name" test "$? $(cat err)" = '2 linefiles: cannot write to standard output: No space left on device'
+}
 if [ -w /dev/full ]; then
-    "$root/linefiles" list samples/one-page.dsk >/dev/full 2>err
-    holds full-output test "$? $(cat err)" = '2 linefiles: cannot write to standard output: No space left on device'
+    full full-list list samples/one-page.dsk
+    full full-survey survey samples/one-page.dsk
+    full full-map map samples/one-page.dsk
+    full full-archive archive samples/one-page.dsk outs/written
+    full full-check check samples/one-page.dsk outs/written
+    full full-show show outs/written
+    full full-help help
 fi
 if [ "$(id -u)" -ne 0 ]; then # root may read and write all
     chmod a-w outs
@@ -286,6 +298,8 @@ same unknown-command lists samples/one-page.dsk
 same too-few get samples/one-page.dsk 'LINE 7 RING 1'
 same too-many list samples/one-page.dsk samples/full.dsk
 same no-disk survey
+run get samples/several-pages.dsk "$(printf '%05000d' 7)" outs/none
+holds long-argument test "$status $(cat err)" = '2 linefiles: an argument is longer than 4096 bytes'
 for command in map archive check show nibblize denibblize; do same "usage-$command" "$command"; done
 
 # the wrapper: from another folder, by a link, and where it has to build

@@ -1,4 +1,5 @@
 // Files by name: one read whole into lent space, one written whole or not at all.
+use crate::print::finish;
 use crate::print::number;
 use crate::print::path as show_path;
 use crate::print::text;
@@ -71,7 +72,7 @@ pub fn load(path: &[u8], buf: &mut [u8]) -> Loaded {
     loaded
 }
 
-// The file is made beside its final name and renamed; a name that is taken is refused unless `force`. False where that failed, which is said.
+// Gives the file `part` its final name; one that is taken is refused unless `force`. False where that failed, which is said.
 fn put_in_place(part: &[u8], path: &[u8], force: bool) -> bool {
     if !force {
         let made = os::create(path);
@@ -150,12 +151,12 @@ fn part_name(path: &[u8], name: &mut [u8]) -> usize {
     after(after(n, 6), k)
 }
 
-fn wrote(path: &[u8], size: u64) -> bool {
+fn wrote(path: &[u8], size: u64) -> u8 {
     text(STDOUT_FILENO, b"wrote ");
     show_path(STDOUT_FILENO, path);
     text(STDOUT_FILENO, b", ");
     number(STDOUT_FILENO, size);
-    io::write_all(STDOUT_FILENO, b" bytes\n")
+    finish(b" bytes\n")
 }
 
 // Writes a whole file, or nothing: the exit status, 0 or 2.
@@ -170,8 +171,7 @@ pub fn save(path: &[u8], bytes: &[u8], force: bool) -> u8 {
         return 2;
     }
     if save_by(lists::part(&name, 0, n), path, bytes, force) {
-        wrote(path, bytes.len() as u64);
-        return 0;
+        return wrote(path, bytes.len() as u64);
     }
     2
 }

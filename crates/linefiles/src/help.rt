@@ -77,7 +77,7 @@ fn notes(fd: i32) {
         b"Types: T text, I Integer BASIC, A Applesoft BASIC, B Binary, S, R relocatable,",
     );
     line(fd, b"AT, BT, U unknown. Only a Binary hands over bytes.");
-    line(
+    text(
         fd,
         b"Exit status: 0 good, 1 refused, 2 bad usage or a file that cannot be used.",
     );

@@ -8,10 +8,10 @@ mod print;
 mod sums;
 mod walk;
 
-use disk::Place;
 use file::load;
 use file::save;
 use help::print_help;
+use libc::ENAMETOOLONG;
 use libc::STDERR_FILENO;
 use libc::STDOUT_FILENO;
 use outcome::NO_TABLE;
@@ -20,18 +20,19 @@ use outcome::NOT_ON_ROLL;
 use outcome::OVERLONG;
 use print::count;
 use print::entry_columns;
+use print::finish;
 use print::heads;
 use print::name;
 use print::number;
 use print::path;
 use print::place;
-use print::place_column;
 use print::refusal;
 use print::right;
 use print::text;
 use sums::after;
 use sums::next;
 use walk::poke;
+use walk::vtoc;
 
 // The commands.
 const LIST: u8 = 1;
@@ -74,23 +75,13 @@ fn tell(s: &[u8]) {
     text(STDERR_FILENO, s);
 }
 
-// The end of what a command prints: the status says whether it could be written.
-fn finish(s: &[u8]) -> u8 {
-    if io::write_all(STDOUT_FILENO, s) {
-        return GOOD;
-    }
-    tell(b"linefiles: cannot write to standard output");
-    os::fail(b"");
-    TROUBLE
-}
-
 // Where on a disk the refusal is met, as far as it has a place.
 fn tell_place(disk: &[u8], why: u8) {
     if why == NO_TABLE {
         tell(b", the VTOC at 17/0 says ");
-        number(STDERR_FILENO, lists::byte_at(disk, 69684) as u64);
+        number(STDERR_FILENO, disk::byte_of(disk, 16, vtoc(), 52) as u64);
         tell(b" tracks of ");
-        number(STDERR_FILENO, lists::byte_at(disk, 69685) as u64);
+        number(STDERR_FILENO, disk::byte_of(disk, 16, vtoc(), 53) as u64);
         tell(b" sectors");
         return;
     }
@@ -181,7 +172,6 @@ fn list(disk: &[u8]) -> u8 {
 fn survey_line(what: &[u8], n: u64) {
     say(what);
     right(STDOUT_FILENO, n, 9);
-    say(b"\n");
 }
 
 fn survey(disk: &[u8]) -> u8 {
@@ -190,13 +180,13 @@ fn survey(disk: &[u8]) -> u8 {
         return refuse(disk, s.refusal);
     }
     survey_line(b"\n  volume        ", s.volume as u64);
-    survey_line(b"  entries       ", s.entries as u64);
-    survey_line(b"  free sectors  ", s.free as u64);
-    survey_line(b"  used sectors  ", s.used as u64);
-    survey_line(b"  percent used  ", s.percent_used as u64);
-    survey_line(b"  archive blocks", s.archive_blocks);
-    survey_line(b"  links followed", s.links);
-    finish(b"")
+    survey_line(b"\n  entries       ", s.entries as u64);
+    survey_line(b"\n  free sectors  ", s.free as u64);
+    survey_line(b"\n  used sectors  ", s.used as u64);
+    survey_line(b"\n  percent used  ", s.percent_used as u64);
+    survey_line(b"\n  archive blocks", s.archive_blocks);
+    survey_line(b"\n  links followed", s.links);
+    finish(b"\n")
 }
 
 fn draw_map(disk: &[u8]) -> u8 {
@@ -587,6 +577,22 @@ fn words(first: usize) -> usize {
     n
 }
 
+// The argument is longer than any that is taken.
+fn is_long(i: usize) -> bool {
+    let mut w = io::buffer();
+    os::arg(i, &mut w);
+    os::errno() == ENAMETOOLONG
+}
+
+fn has_long(first: usize) -> bool {
+    for i in 0..16usize {
+        if is_long(after(first, i)) {
+            return true;
+        }
+    }
+    false
+}
+
 fn unknown_command(w: &[u8]) -> u8 {
     if 0 < w.len() {
         tell(b"linefiles: there is no command ");
@@ -594,6 +600,7 @@ fn unknown_command(w: &[u8]) -> u8 {
         tell(b"\n\n");
     }
     print_help(STDERR_FILENO);
+    tell(b"\n");
     TROUBLE
 }
 
@@ -617,6 +624,10 @@ fn usage(command: u8) -> u8 {
 
 // Runs the command that stands among the arguments at `first`.
 fn run(first: usize) -> u8 {
+    if has_long(first) {
+        tell(b"linefiles: an argument is longer than 4096 bytes\n");
+        return TROUBLE;
+    }
     let mut w = io::buffer();
     let n = word(first, 0, &mut w);
     let command = command_of(lists::part(&w, 0, n));
@@ -625,7 +636,7 @@ fn run(first: usize) -> u8 {
     }
     if command == HELP {
         print_help(STDOUT_FILENO);
-        return finish(b"");
+        return finish(b"\n");
     }
     if words(first) != wants(command) {
         return usage(command);

@@ -4,14 +4,13 @@ use crate::print::text;
 use crate::sums::more;
 use crate::walk::poke;
 use crate::walk::sector_number;
+use crate::walk::vtoc;
 use catalog::entry_start;
 use catalog::first_page;
 use catalog::last_page;
 use catalog::parse_file_entry;
 use catalog::valid_file;
 use disk::Place;
-use disk::Sector;
-use disk::Track;
 use disk::byte_of;
 use disk::link_of;
 use files::last_list;
@@ -80,13 +79,6 @@ fn give_entry(disk: &[u8], x: usize, uses: &mut [u8]) {
 fn give_entries(disk: &[u8], p: Place, uses: &mut [u8]) {
     for i in 0..7u8 {
         give_entry(disk, entry_start(16, p, i), uses);
-    }
-}
-
-fn vtoc() -> Place {
-    Place {
-        track: Track(17),
-        sector: Sector(0),
     }
 }
 

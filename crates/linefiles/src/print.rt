@@ -1,8 +1,20 @@
 // What the program writes: text, numbers, locations, names and refusals, to a descriptor.
 use disk::Place;
+use libc::STDERR_FILENO;
+use libc::STDOUT_FILENO;
 
 pub fn text(fd: i32, s: &[u8]) {
     io::write_all(fd, s);
+}
+
+// The end of what a command prints: its exit status, 0, or 2 where that cannot be written, which is said.
+pub fn finish(s: &[u8]) -> u8 {
+    if io::write_all(STDOUT_FILENO, s) {
+        return 0;
+    }
+    text(STDERR_FILENO, b"linefiles: cannot write to standard output");
+    os::fail(b"");
+    2
 }
 
 pub fn number(fd: i32, n: u64) {

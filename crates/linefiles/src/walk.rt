@@ -171,7 +171,7 @@ fn at_page(disk: &[u8], why: u8, refusal: u8, pages: u16, from: Place, to: Place
     }
 }
 
-fn vtoc() -> Place {
+pub fn vtoc() -> Place {
     Place {
         track: Track(17),
         sector: Sector(0),
