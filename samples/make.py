@@ -137,7 +137,7 @@ def several_pages():
     d.file('LINE 9 CUT SHORT', 4, binary(line(24, 252), length=253))
     # The name of the first line file once more: fetched by name, it is this one.
     _, twice = d.file('LINE 1 RING 1', 4, binary(line(25, 600)))
-    # The map and the chains differ: a sector of this file stands in the last one too, its own is in no chain, and one in a chain is free.
+    # The last file has a sector of the one before. Its own is in no chain, and the map calls a sector in a chain free.
     lists, _ = d.file('SHARES A SECTOR', 4, binary(line(26, 100)))
     d.put(lists[0], 12, bytes(twice[0]))
     d.map(*twice[1], True)
