@@ -98,6 +98,8 @@ mkdir outs
 # list: question four of the paper, and what was followed up to a refusal
 same list-one-page list samples/one-page.dsk
 holds list-one-page-plain plain out
+sed -n '/^    samples\/one-page.dsk: /,/^    4 files/p' "$root/README.md" | sed 's/^    //' >shown
+holds readme-shows-it diff shown out
 same list-one-page-nibbles list samples/one-page.nib
 same list-several-pages list samples/several-pages.dsk
 holds list-several-pages-plain plain out
