@@ -36,6 +36,9 @@ fn rows(fd: i32) {
         b"archive DISK OUT",
         b"write the archive (return) of the disk to OUT",
     );
+}
+
+fn more_rows(fd: i32) {
     row(
         fd,
         b"check DISK ARCHIVE",
@@ -89,6 +92,7 @@ pub fn print_help(fd: i32) {
         b"linefiles: the line files on an Apple DOS 3.3 disk\n\n",
     );
     rows(fd);
+    more_rows(fd);
     text(fd, b"\n");
     notes(fd);
 }
