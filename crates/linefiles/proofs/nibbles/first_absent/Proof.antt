@@ -1,0 +1,26 @@
+use Prim.Native.Nat.{_-_, _≤_}
+use borrow.Author.Needs.{needs}
+use Rattle.linefiles.proofs.nibbles.first_absent.Statement.{statement}
+use Rattle.linefiles.proofs.nibbles.first_absent.Tie as tie
+
+abbrev Inv-loop : tie.InvT-loop
+Inv-loop seen k₀ k = k ≤ 560
+
+abbrev μ-loop : tie.MeasureT-loop
+μ-loop seen k₀ k = 560 - k
+
+pub first-absent-spec : {M : Type 1} → statement M
+first-absent-spec =
+    tie.close
+    (tie.spec
+    Inv-loop
+    μ-loop
+    (λ c. search needs)  -- loop-holds
+    (λ c. search needs)  -- cast-byte-at
+    (λ c κs. search needs)  -- byte-at-requires
+    (λ c. search needs)  -- returns
+    (λ c. search needs)  -- add-k
+    (λ c. search needs)  -- loop-less
+    (λ c. search needs)  -- loop-again
+    (λ c. search needs)  -- returns-2
+    )

@@ -1,0 +1,27 @@
+use Prim.Native.Nat.{_-_, _≤_}
+use borrow.Author.Needs.{needs}
+use Rattle.linefiles.proofs.walk.bad_pair.Statement.{statement}
+use Rattle.linefiles.proofs.walk.bad_pair.Tie as tie
+
+abbrev Inv-loop : tie.InvT-loop
+Inv-loop disk p i₀ i = i ≤ 121
+
+abbrev μ-loop : tie.MeasureT-loop
+μ-loop disk p i₀ i = 121 - i
+
+pub bad-pair-spec : {M : Type 1} → statement M
+bad-pair-spec =
+    tie.close
+    (tie.spec
+    Inv-loop
+    μ-loop
+    (λ c. search needs)  -- loop-holds
+    (λ c κs. search needs)  -- parse-track-sector-pair-requires
+    (λ c. search needs)  -- returns
+    (λ c κs. search needs)  -- on-disk-requires
+    (λ c. search needs)  -- returns-2
+    (λ c. search needs)  -- add-i
+    (λ c. search needs)  -- loop-less
+    (λ c. search needs)  -- loop-again
+    (λ c. search needs)  -- returns-3
+    )

@@ -1,0 +1,236 @@
+#!/usr/bin/env python3
+# Makes the sample disks beside it, always the same bytes. README.md here says what each is for.
+import os
+
+HERE = os.path.dirname(os.path.abspath(__file__))
+PAIRS = 121  # pairs that are written to one list
+
+
+class Disk:
+    def __init__(self, volume, pages, first_free=3):
+        self.d = bytearray(143360)
+        v = self.vtoc = 17 * 4096
+        self.d[v + 1], self.d[v + 2], self.d[v + 3], self.d[v + 6] = 17, 15, 3, volume
+        self.d[v + 39], self.d[v + 48], self.d[v + 49] = 122, 18, 1
+        self.d[v + 52], self.d[v + 53], self.d[v + 55] = 35, 16, 1
+        for t in range(first_free, 35):
+            for s in range(16):
+                self.map(t, s, True)
+        self.map(17, 0, False)
+        self.pages = [(17, 15 - k) for k in range(pages)]
+        for k, p in enumerate(self.pages):
+            self.map(*p, False)
+            if k + 1 < pages:
+                self.link(p, self.pages[k + 1])
+        self.entries = 0
+
+    # A sector is free (True) or used in the VTOC's map.
+    def map(self, t, s, free):
+        at = self.vtoc + 56 + 4 * t + (0 if s > 7 else 1)
+        bit = 1 << (s % 8)
+        self.d[at] = self.d[at] | bit if free else self.d[at] & ~bit
+
+    def is_free(self, t, s):
+        return self.d[self.vtoc + 56 + 4 * t + (0 if s > 7 else 1)] >> (s % 8) & 1 == 1
+
+    def put(self, p, at, data):
+        start = 4096 * p[0] + 256 * p[1] + at
+        self.d[start:start + len(data)] = data
+
+    def link(self, p, q):
+        self.put(p, 1, bytes(q))
+
+    # The next free sector, as DOS takes them: from the catalog outwards, the highest sector of a track first. A list does not stand on a sector 0.
+    def take(self, for_list=False):
+        for t in list(range(18, 35)) + list(range(16, 2, -1)):
+            for s in range(15, 0 if for_list else -1, -1):
+                if self.is_free(t, s):
+                    self.map(t, s, False)
+                    return (t, s)
+        raise SystemExit('the disk is full')
+
+    # The next entry: 30 bytes of name, with the high bit set if plain is false.
+    def entry(self, name, kind, first, count, locked=False, plain=False):
+        page = self.pages[self.entries // 7]
+        raw = name.encode('latin-1').ljust(30)
+        raw = raw if plain else bytes(b | 0x80 for b in raw)
+        head = bytes([first[0], first[1], kind | (0x80 if locked else 0)])
+        self.put(page, 11 + 35 * (self.entries % 7), head + raw + count.to_bytes(2, 'little'))
+        self.entries += 1
+
+    # An entry that was deleted: list track FFh, the old one in the name's last byte.
+    def deleted(self, name):
+        self.entry(name, 4, (255, 15), 2)
+        page = self.pages[(self.entries - 1) // 7]
+        self.put(page, 11 + 35 * ((self.entries - 1) % 7) + 32, bytes([18]))
+
+    # A file: its lists, its sectors, its entry. The places of the lists and of the sectors are given back.
+    def file(self, name, kind, data, locked=False, plain=False, pairs=PAIRS):
+        count = (len(data) + 255) // 256
+        lists = [self.take(True)]
+        sectors = []
+        for k in range(count):
+            if k and k % pairs == 0:
+                lists.append(self.take(True))
+                self.link(lists[-2], lists[-1])
+                self.put(lists[-1], 5, k.to_bytes(2, 'little'))
+            sectors.append(self.take())
+            self.put(lists[-1], 12 + 2 * (k % pairs), bytes(sectors[-1]))
+            self.put(sectors[-1], 0, data[256 * k:256 * k + 256])
+        self.entry(name, kind, lists[0], len(lists) + count, locked, plain)
+        return lists, sectors
+
+    def write(self, name):
+        with open(os.path.join(HERE, name), 'wb') as f:
+            f.write(self.d)
+
+
+# The bytes of a line: for each ring of the tunnel its number, and where its centre lies, in millimetres, three bytes each.
+def line(number, size):
+    out = bytearray()
+    ring = 0
+    while len(out) < size:
+        x, y, z = 1500 * ring, 40 * ring * ring // 100 + number, 50000 - 3 * ring
+        for v in (ring, x, y, z):
+            out += (v % 16777216).to_bytes(3, 'little')
+        ring += 1
+    return bytes(out[:size])
+
+
+# A Binary file: address, length, data.
+def binary(data, address=0x4000, length=None):
+    n = len(data) if length is None else length
+    return address.to_bytes(2, 'little') + n.to_bytes(2, 'little') + data
+
+
+def text(*lines):
+    return b''.join(bytes(b | 0x80 for b in l.encode()) + b'\x8d' for l in lines)
+
+
+def one_page():
+    d = Disk(254, 1)
+    d.file('LINE 7 RING 1', 4, binary(line(7, 700)), locked=True)
+    d.file('LINE 7 RINGS 2 TO 2667', 4, binary(line(8, 32000)))
+    d.deleted('LINE 6 OLD')
+    d.file('LINE 7 STATIONS', 4, binary(line(9, 252)))
+    d.file('SHIFT NOTES', 0, text('RING 2 GROUTED', 'CUTTER 14 CHANGED', 'LASER 3 MOVED AT RING 118'))
+    return d
+
+
+def several_pages():
+    d = Disk(7, 3)
+    d.file('HELLO', 2, b'\x20\x00' + bytes(32), locked=True)
+    for k in range(1, 5):
+        d.file('LINE %d RING 1' % k, 4, binary(line(k, 400 * k)), locked=k == 2)
+    d.deleted('LINE 5 RING 1')
+    d.file('MENU', 1, bytes(300))
+    d.file('SURVEY S', 8, bytes(256))
+    d.file('SURVEY R', 10, bytes(256))
+    d.file('SURVEY AT', 20, bytes(256))
+    d.file('SURVEY BT', 40, bytes(256))
+    d.file('SURVEY 16', 16, bytes(256))
+    d.file('BELL\x07 AND ESCAPE\x1b[2J', 4, binary(line(20, 90)))
+    d.file('BACK\\SLASH', 4, binary(line(21, 91)))
+    d.file('', 0, b'')
+    d.file('lower case, high bits clear', 4, binary(line(22, 92)), plain=True)
+    d.file('THIRTY LETTERS IN THIS NAME 30', 4, binary(line(23, 4096)), pairs=10)
+    d.file('LINE 9 CUT SHORT', 4, binary(line(24, 252), length=253))
+    # The name of the first line file once more: fetched by name, it is this one.
+    _, twice = d.file('LINE 1 RING 1', 4, binary(line(25, 600)))
+    # The last file has a sector of the one before. Its own is in no chain, and the map calls a sector in a chain free.
+    lists, _ = d.file('SHARES A SECTOR', 4, binary(line(26, 100)))
+    d.put(lists[0], 12, bytes(twice[0]))
+    d.map(*twice[1], True)
+    return d
+
+
+def ring():
+    d = Disk(254, 1)
+    d.file('LINE 7 RING 1', 4, binary(line(7, 700)))
+    lists, _ = d.file('LINE 7 RINGS 2 TO 90', 4, binary(line(8, 2500)), pairs=4)
+    d.file('LINE 7 STATIONS', 4, binary(line(9, 252)))
+    d.link(lists[2], lists[1])
+    return d
+
+
+def ring_of_pages():
+    d = Disk(254, 4)
+    for k in range(1, 16):
+        d.file('LINE 7 RING %d' % k, 4, binary(line(k, 200)))
+    d.link(d.pages[3], d.pages[1])
+    return d
+
+
+def cut_link():
+    d = Disk(254, 1)
+    d.file('LINE 7 RING 1', 4, binary(line(7, 700)))
+    lists, _ = d.file('LINE 7 RINGS 2 TO 90', 4, binary(line(8, 2500)), pairs=4)
+    d.link(lists[1], (lists[2][0], 0))
+    return d
+
+
+def full():
+    d = Disk(254, 15)
+    for k in range(105):
+        d.file('LINE %d RING %d' % (1 + k // 7, 1 + k % 7), 4, binary(line(k, (1000 if k < 76 else 750))))
+    return d
+
+
+def overlong():
+    d = Disk(254, 3)
+    lists, sectors = d.file('LINE 1', 4, binary(line(1, 65532)))
+    for k in range(2, 17):
+        d.entry('LINE %d' % k, 4, lists[0], len(lists) + len(sectors))
+    return d
+
+
+# A flat disk as nibbles (document 01: the nibble writer).
+WRITE = [0x96, 0x97, 0x9A, 0x9B, 0x9D, 0x9E, 0x9F, 0xA6, 0xA7, 0xAB, 0xAC, 0xAD, 0xAE, 0xAF, 0xB2, 0xB3,
+         0xB4, 0xB5, 0xB6, 0xB7, 0xB9, 0xBA, 0xBB, 0xBC, 0xBD, 0xBE, 0xBF, 0xCB, 0xCD, 0xCE, 0xCF, 0xD3,
+         0xD6, 0xD7, 0xD9, 0xDA, 0xDB, 0xDC, 0xDD, 0xDE, 0xDF, 0xE5, 0xE6, 0xE7, 0xE9, 0xEA, 0xEB, 0xEC,
+         0xED, 0xEE, 0xEF, 0xF2, 0xF3, 0xF4, 0xF5, 0xF6, 0xF7, 0xF9, 0xFA, 0xFB, 0xFC, 0xFD, 0xFE, 0xFF]
+
+
+def four(v):
+    return bytes([v >> 1 | 0xAA, v | 0xAA])
+
+
+def coded(b):
+    values = []
+    for j in range(86):
+        v = 0
+        for k in range(3):
+            if j + 86 * k < 256:
+                low = b[j + 86 * k] & 3
+                v |= (low >> 1 | (low & 1) << 1) << 2 * k
+        values.append(v)
+    values += [x >> 2 for x in b]
+    steps = [values[0]] + [values[k] ^ values[k - 1] for k in range(1, 342)] + [values[341]]
+    return bytes(WRITE[s] for s in steps)
+
+
+def nibbles(d):
+    volume = d[17 * 4096 + 6]
+    out = bytearray()
+    for t in range(35):
+        for p in range(16):
+            s = 15 if p == 15 else 7 * p % 15
+            start = 4096 * t + 256 * s
+            out += b'\xff' * 48 + b'\xd5\xaa\x96' + four(volume) + four(t) + four(p) + four(volume ^ t ^ p) + b'\xde\xaa\xeb'
+            out += b'\xff' * 5 + b'\xd5\xaa\xad' + coded(d[start:start + 256]) + b'\xde\xaa\xeb'
+    return bytes(out)
+
+
+def main():
+    one_page().write('one-page.dsk')
+    several_pages().write('several-pages.dsk')
+    ring().write('ring.dsk')
+    ring_of_pages().write('ring-of-pages.dsk')
+    cut_link().write('cut-link.dsk')
+    full().write('full.dsk')
+    overlong().write('overlong.dsk')
+    with open(os.path.join(HERE, 'one-page.nib'), 'wb') as f:
+        f.write(nibbles(one_page().d))
+
+
+main()

@@ -1,0 +1,334 @@
+#!/usr/bin/env bash
+# Runs every command of ./linefiles on good and on bad input. What it prints and its exit status are compared with test/expected/, one file for each case.
+# One line for each case, the last line is 'N passed, M failed'. It needs bash and the usual tools.
+# With UPDATE=1 the files of test/expected/ are written anew: look them over before they are committed.
+set -u
+export LC_ALL=C
+root=$(cd "$(dirname "$0")/.." && pwd) || exit 2
+expected=$root/test/expected
+"$root/linefiles" help >/dev/null || exit 2 # builds, if need be
+work=$(mktemp -d) || exit 2
+trap 'rm -rf "$work"' EXIT
+cd "$work" || exit 2
+ln -s "$root/samples" samples
+passed=0
+failed=0
+
+pass() {
+    echo "pass $1"
+    passed=$((passed + 1))
+}
+
+fail() {
+    echo "FAIL $1"
+    failed=$((failed + 1))
+}
+
+# run ARGS..: standard output to `out`, standard error to `err`, the exit status to `status`.
+run() {
+    "$root/linefiles" "$@" >out 2>err
+    status=$?
+}
+
+# same NAME ARGS..: what linefiles prints and its status, against expected/NAME.
+same() {
+    local name=$1
+    shift
+    run "$@"
+    {
+        printf '$ linefiles'
+        [ $# -eq 0 ] || printf ' %q' "$@"
+        echo
+        cat out
+        echo "--- standard error"
+        cat err
+        echo "--- status $status"
+    } >answer
+    if [ -n "${UPDATE:-}" ]; then cp answer "$expected/$name"; fi
+    if diff "$expected/$name" answer >difference 2>&1; then pass "$name"; else
+        fail "$name"
+        sed 's/^/    /' difference
+    fi
+}
+
+# holds NAME COMMAND..: the command succeeds.
+holds() {
+    local name=$1
+    shift
+    if "$@" >difference 2>&1; then pass "$name"; else
+        fail "$name"
+        sed 's/^/    /' difference
+    fi
+}
+
+not() { ! "$@"; }
+
+# patch FILE PLACE HEX..: puts bytes into a file.
+patch() {
+    local file=$1 place=$2 byte
+    shift 2
+    for byte in "$@"; do printf "\\x$byte"; done | dd of="$file" bs=1 seek="$place" conv=notrunc status=none
+}
+
+# damaged FILE FROM PLACE HEX..: a copy of a sample with bytes changed.
+damaged() {
+    local file=$1 from=$2
+    shift 2
+    cp "samples/$from" "$file"
+    chmod u+w "$file"
+    patch "$file" "$@"
+}
+
+# at TRACK SECTOR BYTE: a place on a flat disk.
+at() { echo $((4096 * $1 + 256 * $2 + $3)); }
+
+# nib TRACK SECTOR BYTE: a place in a stream, by address sector. The address is at byte 48, the data at byte 70 of 416.
+nib() { echo $((416 * (16 * $1 + $2) + $3)); }
+
+# tidy: nothing but what is named lies in the folder `outs`.
+tidy() { [ "$(ls -A outs | tr '\n' ' ')" = "$*" ]; }
+
+sum_is() { [ "$(sha256sum <"$1")" = "$2  -" ]; }
+
+# plain FILE: no byte that a terminal may act on, and no line over 80 columns.
+plain() { [ "$(tr -d '\n -~' <"$1" | wc -c)" -eq 0 ] && [ "$(wc -L <"$1")" -le 80 ]; }
+
+mkdir outs
+
+# list: question four of the paper, and what was followed up to a refusal
+same list-one-page list samples/one-page.dsk
+holds list-one-page-plain plain out
+sed -n '/^    samples\/one-page.dsk: /,/^    4 files/p' "$root/README.md" | sed 's/^    //' >shown
+holds readme-shows-it diff shown out
+same list-one-page-nibbles list samples/one-page.nib
+same list-several-pages list samples/several-pages.dsk
+holds list-several-pages-plain plain out
+same list-full list samples/full.dsk
+holds list-full-plain plain out
+same list-overlong list samples/overlong.dsk
+same list-ring list samples/ring.dsk
+same list-ring-of-pages list samples/ring-of-pages.dsk
+same list-cut-link list samples/cut-link.dsk
+holds crate-data cmp "$root/crates/linefiles/data/one-page.dsk" samples/one-page.dsk
+
+# list: one damaged disk for each other refusal, and links that end a chain with a byte left in them
+damaged no-table.dsk one-page.dsk "$(at 17 0 52)" 24
+same list-no-table list no-table.dsk
+damaged first-page-off.dsk one-page.dsk "$(at 17 0 2)" 10
+same list-first-page-off list first-page-off.dsk
+damaged page-off.dsk several-pages.dsk "$(at 17 14 1)" 23 05
+same list-page-off list page-off.dsk
+damaged bad-letter.dsk several-pages.dsk "$(at 17 14 $((11 + 2 * 35 + 3 + 4)))" 80
+same list-bad-letter list bad-letter.dsk
+damaged list-off.dsk one-page.dsk "$(at 17 15 $((11 + 3 * 35)))" 1a 10
+same list-list-off list list-off.dsk
+damaged link-off.dsk one-page.dsk "$(at 18 11 1)" 23 01
+same list-link-off list link-off.dsk
+damaged pair-off.dsk one-page.dsk "$(at 25 1 14)" 18 10
+same list-pair-off list pair-off.dsk
+damaged link-bytes.dsk one-page.dsk "$(at 17 15 1)" 00 07
+patch link-bytes.dsk "$(at 18 15 2)" 09
+patch link-bytes.dsk "$(at 17 0 1)" 12
+same list-link-bytes list link-bytes.dsk
+
+# survey and map
+same survey-one-page survey samples/one-page.dsk
+same survey-one-page-nibbles survey samples/one-page.nib
+same survey-several-pages survey samples/several-pages.dsk
+same survey-full survey samples/full.dsk
+same survey-overlong survey samples/overlong.dsk
+same survey-ring survey samples/ring.dsk
+same map-one-page map samples/one-page.dsk
+holds map-one-page-plain plain out
+same map-several-pages map samples/several-pages.dsk
+same map-full map samples/full.dsk
+same map-cut-link map samples/cut-link.dsk
+
+# get
+same get-line get samples/one-page.dsk 'LINE 7 STATIONS' outs/stations
+dd if=samples/one-page.dsk of=wanted bs=1 skip="$(at 26 10 4)" count=252 status=none
+holds get-line-bytes cmp wanted outs/stations
+same get-line-nibbles get samples/one-page.nib 'LINE 7 STATIONS' outs/stations-nibbles
+holds get-line-nibbles-bytes cmp wanted outs/stations-nibbles
+same get-last-of-name get samples/several-pages.dsk 'LINE 1 RING 1' outs/last
+same get-escaped get samples/several-pages.dsk 'BELL\x07 AND ESCAPE\x1b[2J' outs/bell
+same get-raw-bytes get samples/several-pages.dsk $'BELL\x07 AND ESCAPE\x1b[2J' outs/bell-raw
+holds get-raw-bytes-equal cmp outs/bell outs/bell-raw
+same get-backslash get samples/several-pages.dsk 'BACK\\SLASH' outs/backslash
+same get-empty-name get samples/several-pages.dsk '' outs/empty-name
+same get-text get samples/one-page.dsk 'SHIFT NOTES' outs/notes
+holds get-text-empty cmp /dev/null outs/notes
+same get-not-on-roll get samples/one-page.dsk 'LINE 8' outs/none
+same get-deleted get samples/one-page.dsk 'LINE 6 OLD' outs/none
+same get-long-name get samples/one-page.dsk 'LINE 7 RING 1 AND MORE THAN THIRTY' outs/none
+same get-ring get samples/ring.dsk 'LINE 7 RING 1' outs/none
+holds get-nothing-left not test -e outs/none
+rm -f outs/*
+
+# archive, check, show
+same archive-one-page archive samples/one-page.dsk outs/flat.arc
+same archive-one-page-nibbles archive samples/one-page.nib outs/nibbles.arc
+holds archive-equal cmp outs/flat.arc outs/nibbles.arc
+holds archive-one-page-bytes sum_is outs/flat.arc 2fa4b4cf1c73def20590c3d4f6a3bde31f7b556646e31fcee69b8639f9b66551
+same archive-several-pages archive samples/several-pages.dsk outs/several.arc
+holds archive-several-pages-bytes sum_is outs/several.arc 6fee3d2549750c7773a2fa8573166772b87a61ef9bd6d82209e4a625796b826e
+same archive-full archive samples/full.dsk outs/full.arc
+holds archive-full-bytes sum_is outs/full.arc 40bfb35f2060effe56ba7d359a94ff90df98ab02db8947cee53eac044a3d8328
+same archive-ring archive samples/ring.dsk outs/none
+same archive-overlong archive samples/overlong.dsk outs/none
+holds archive-nothing-left not test -e outs/none
+same check-flat check samples/one-page.dsk outs/flat.arc
+same check-nibbles check samples/one-page.nib outs/flat.arc
+same check-several-pages check samples/several-pages.dsk outs/several.arc
+same check-other-disk check samples/full.dsk outs/flat.arc
+cp outs/flat.arc changed.arc
+patch changed.arc 1030 ff
+same check-changed check samples/one-page.dsk changed.arc
+head -c 34303 outs/flat.arc >cut.arc
+same check-cut check samples/one-page.dsk cut.arc
+same check-ring check samples/ring.dsk outs/flat.arc
+same check-overlong check samples/overlong.dsk outs/flat.arc
+same check-no-archive check samples/one-page.dsk nosuch.arc
+same show-one-page show outs/flat.arc
+holds show-one-page-plain plain out
+same show-several-pages show outs/several.arc
+holds show-several-pages-plain plain out
+same show-changed show changed.arc
+same show-cut show cut.arc
+same show-disk show samples/one-page.dsk
+: >empty
+same show-empty show empty
+same show-missing show nosuch.arc
+
+# nibblize, denibblize
+same nibblize nibblize samples/one-page.dsk outs/one.nib
+holds nibblize-bytes cmp outs/one.nib samples/one-page.nib
+same nibblize-nibbles nibblize samples/one-page.nib outs/two.nib
+holds nibblize-nibbles-bytes cmp outs/two.nib samples/one-page.nib
+same denibblize denibblize outs/one.nib outs/one.dsk
+holds denibblize-bytes cmp outs/one.dsk samples/one-page.dsk
+same nibblize-ring nibblize samples/ring.dsk outs/ring.nib
+same list-ring-nibbles list outs/ring.nib
+same denibblize-flat denibblize samples/one-page.dsk outs/none
+damaged address.nib one-page.nib "$(nib 3 5 52)" ff
+same denibblize-address-sum denibblize address.nib outs/none
+same list-address-sum list address.nib
+damaged data.nib one-page.nib "$(nib 4 6 80)" 96 97 9a
+same denibblize-data-sum denibblize data.nib outs/none
+damaged absent.nib one-page.nib "$(nib 7 1 48)" ff
+same denibblize-absent denibblize absent.nib outs/none
+damaged stranger.nib one-page.nib "$(nib 2 0 51)" fe ff
+patch stranger.nib "$(nib 2 0 57)" ff ff
+same denibblize-stranger denibblize stranger.nib outs/none
+holds denibblize-nothing-left not test -e outs/none
+
+# files that cannot be read
+same missing list nosuch.dsk
+mkdir folder
+same folder survey folder
+same empty list empty
+head -c 143359 samples/one-page.dsk >short.dsk
+same short survey short.dsk
+cp "$root/README.md" text.dsk
+head -c 1000 text.dsk >text-1000.dsk
+same text list text-1000.dsk
+head -c 1048577 /dev/zero >long.dsk
+same long map long.dsk
+same empty-path list ''
+
+# outputs: what is there stays, and nothing half written is left
+rm -f outs/*
+echo kept >outs/there
+same there archive samples/one-page.dsk outs/there
+holds there-kept test "$(cat outs/there)" = kept
+same force archive samples/one-page.dsk outs/there --force
+holds force-bytes sum_is outs/there 2fa4b4cf1c73def20590c3d4f6a3bde31f7b556646e31fcee69b8639f9b66551
+same force-first --force archive samples/one-page.dsk outs/there
+same force-between nibblize --force samples/one-page.dsk outs/there
+holds force-between-bytes cmp outs/there samples/one-page.nib
+mkdir outs/folder
+same out-folder archive samples/one-page.dsk outs/folder
+same out-folder-force archive samples/one-page.dsk outs/folder --force
+same out-no-folder archive samples/one-page.dsk outs/none/out
+same out-empty archive samples/one-page.dsk ''
+holds outs-tidy tidy "folder there "
+echo kept >outs/there
+(
+    ulimit -f 8
+    "$root/linefiles" archive samples/one-page.dsk outs/half 2>half.err
+    echo "status $?"
+    "$root/linefiles" archive samples/one-page.dsk outs/there --force 2>>half.err
+    echo "status $?"
+) >half.out
+cat half.err half.out >half
+printf '%s\n' 'linefiles: cannot write outs/half: File too large' 'linefiles: cannot write outs/there: File too large' \
+    'samples/one-page.dsk: flat disk of 143360 bytes' 'status 2' 'samples/one-page.dsk: flat disk of 143360 bytes' 'status 2' >half.wanted
+holds half-told diff half.wanted half
+holds half-tidy tidy "folder there "
+holds half-kept test "$(cat outs/there)" = kept
+# full NAME ARGS..: standard output cannot be written, which is told.
+full() {
+    local name=$1
+    shift
+    "$root/linefiles" "$@" >/dev/full 2>err
+    holds "$name" test "$? $(cat err)" = '2 linefiles: cannot write to standard output: No space left on device'
+}
+if [ -w /dev/full ]; then
+    full full-list list samples/one-page.dsk
+    full full-survey survey samples/one-page.dsk
+    full full-map map samples/one-page.dsk
+    full full-archive archive samples/one-page.dsk outs/written
+    full full-check check samples/one-page.dsk outs/written
+    full full-show show outs/written
+    full full-help help
+fi
+if [ "$(id -u)" -ne 0 ]; then # root may read and write all
+    chmod a-w outs
+    same out-read-only archive samples/one-page.dsk outs/new
+    chmod u+w outs
+    cp samples/one-page.dsk secret.dsk
+    chmod a-r secret.dsk
+    same unreadable list secret.dsk
+fi
+
+# usage
+same help help
+holds help-plain plain out
+same help-option --help
+same no-arguments
+same unknown-command lists samples/one-page.dsk
+same too-few get samples/one-page.dsk 'LINE 7 RING 1'
+same too-many list samples/one-page.dsk samples/full.dsk
+same no-disk survey
+run get samples/several-pages.dsk "$(printf '%05000d' 7)" outs/none
+holds long-argument test "$status $(cat err)" = '2 linefiles: an argument is longer than 4096 bytes'
+for command in map archive check show nibblize denibblize; do same "usage-$command" "$command"; done
+
+# the wrapper: from another folder, by a link, and where it has to build
+ln -s "$root/linefiles" by-link
+./by-link survey samples/one-page.dsk >by-link.out
+holds wrapper-by-link diff by-link.out <("$root/linefiles" survey samples/one-page.dsk)
+mkdir -p fresh/crates tools
+cp "$root/linefiles" fresh/linefiles
+touch fresh/crates.txt
+for tool in bash env dirname readlink find mktemp cat rm touch mkdir cp; do ln -s "$(command -v $tool)" tools/$tool; done
+PATH=$work/tools fresh/linefiles help >out 2>err
+holds wrapper-no-rt test "$? $(cat err)" = '2 linefiles: cannot build: there is no rt, the command of the Rattle kit, on the PATH'
+printf '#!/usr/bin/env bash\necho "the log of $*"\nexit 1\n' >tools/rt
+chmod +x tools/rt
+PATH=$work/tools fresh/linefiles help >out 2>err
+holds wrapper-build-fails test "$? $(cat err)" = "2 linefiles: building, some minutes the first time
+the log of check linefiles
+linefiles: rt check linefiles failed"
+printf '#!/usr/bin/env bash\necho "the log of $*"\nmkdir -p target/bin && cp %q target/bin/linefiles\n' "$root/target/bin/linefiles" >tools/rt
+PATH=$work/tools fresh/linefiles survey samples/one-page.dsk >out 2>err
+holds wrapper-builds test "$? $(cat err)" = '0 linefiles: building, some minutes the first time'
+holds wrapper-builds-output diff by-link.out out
+PATH=$work/tools fresh/linefiles survey samples/ring.dsk >out 2>err
+holds wrapper-built test "$? $(cat err)" = '1 refused: 4 ring, file 2 LINE 7 RINGS 2 TO 90: list 18/1 leads back to list 18/6'
+touch -d '1 hour' fresh/crates/newer
+PATH=$work/tools fresh/linefiles survey samples/one-page.dsk >out 2>err
+holds wrapper-builds-again test "$? $(cat err)" = '0 linefiles: building, some minutes the first time'
+
+echo "$passed passed, $failed failed"
+[ "$failed" -eq 0 ]
