@@ -1,6 +1,6 @@
 // The pairs of a track/sector list in a lent run of structs: document 01, "Track/sector list" ("They are handed over in a lent run of pairs"). (In the Rust:
 // TrackSectorPair and TrackSectorList of catalog.rs.) The borrow checker does not cover a slice of structs, so `pair_run` is proved by hand: it calls the
-// functions above it, and stores.
+// functions above it, and stores. `run_of_four`, which lends a run of its own, is proved by hand too; whoever calls it needs no such proof.
 ghost use mathlib.Core.Path.{_≡_};
 ghost use Rattle.outcome.specs.Outcome.{answerOf, Hands};
 ghost use Rattle.disk.specs.Disk.{place};
@@ -79,4 +79,19 @@ pub fn pair_run(disk: &[u8], track: u8, sector: u8, run: &mut [TrackSectorPair])
         i += 1;
     }
     answer
+}
+
+// The answer of `run_of_four`, and the run as it is left.
+pub struct RunOfFour {
+    pub answer: Handed,
+    pub pairs: [TrackSectorPair; 4],
+}
+
+// The same with a run of four pairs that goes in by value and comes back.
+pub fn run_of_four(disk: &[u8], track: u8, sector: u8, pairs: [TrackSectorPair; 4]) -> RunOfFour
+    ensures { λ r. ⌜ Hands (pairRun 16 (now (disk .entry)) (place track sector)) pairs (r .pairs) (r .answer) ⌝ }
+{
+    let mut run = pairs;
+    let answer = pair_run(disk, track, sector, &mut run);
+    RunOfFour { answer, pairs: run }
 }
