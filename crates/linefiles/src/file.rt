@@ -61,7 +61,7 @@ fn load_from(fd: i32, path: &[u8], buf: &mut [u8]) -> Loaded {
 }
 
 // Reads a whole file into buf. Where it cannot be read, or is longer, this is said.
-pub fn load(path: &[u8], buf: &mut [u8]) -> Loaded {
+pub(crate) fn load(path: &[u8], buf: &mut [u8]) -> Loaded {
     let fd = os::open_read(path);
     if fd < 0 {
         cannot(b"read", path);
@@ -160,7 +160,7 @@ fn wrote(path: &[u8], size: u64) -> u8 {
 }
 
 // Writes a whole file, or nothing: the exit status, 0 or 2.
-pub fn save(path: &[u8], bytes: &[u8], force: bool) -> u8 {
+pub(crate) fn save(path: &[u8], bytes: &[u8], force: bool) -> u8 {
     let mut name = io::buffer();
     let n = part_name(path, &mut name);
     if n == 0 {

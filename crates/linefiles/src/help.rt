@@ -86,7 +86,7 @@ fn notes(fd: i32) {
     );
 }
 
-pub fn print_help(fd: i32) {
+pub(crate) fn print_help(fd: i32) {
     text(
         fd,
         b"linefiles: the line files on an Apple DOS 3.3 disk\n\n",

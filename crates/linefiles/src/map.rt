@@ -174,7 +174,7 @@ fn legends(disk: &[u8], uses: &[u8]) {
 }
 
 // Draws the map of a disk that is not refused.
-pub fn draw(disk: &[u8]) {
+pub(crate) fn draw(disk: &[u8]) {
     let mut uses = [0u8; 560];
     give(&mut uses, vtoc(), VTOC);
     give_pages(disk, &mut uses);

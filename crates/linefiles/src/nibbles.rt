@@ -161,7 +161,7 @@ fn tell_absent(s: &[u8], seen: &[u8]) {
 }
 
 // Tells the place of a refusal of denibblize.
-pub fn tell(s: &[u8], why: u8) {
+pub(crate) fn tell(s: &[u8], why: u8) {
     let mut seen = [0u8; 560];
     let first = parse_nib_sector(s, 0);
     tell_pairs(s, why, first.volume, &mut seen);

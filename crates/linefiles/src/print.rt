@@ -3,12 +3,12 @@ use disk::Place;
 use libc::STDERR_FILENO;
 use libc::STDOUT_FILENO;
 
-pub fn text(fd: i32, s: &[u8]) {
+pub(crate) fn text(fd: i32, s: &[u8]) {
     io::write_all(fd, s);
 }
 
 // The end of what a command prints: its exit status, 0, or 2 where that cannot be written, which is said.
-pub fn finish(s: &[u8]) -> u8 {
+pub(crate) fn finish(s: &[u8]) -> u8 {
     if io::write_all(STDOUT_FILENO, s) {
         return 0;
     }
@@ -17,12 +17,12 @@ pub fn finish(s: &[u8]) -> u8 {
     2
 }
 
-pub fn number(fd: i32, n: u64) {
+pub(crate) fn number(fd: i32, n: u64) {
     io::print_decimal(fd, n);
 }
 
 // At most 40 spaces.
-pub fn spaces(fd: i32, n: usize) {
+pub(crate) fn spaces(fd: i32, n: usize) {
     text(
         fd,
         lists::part(b"                                        ", 0, n),
@@ -38,7 +38,7 @@ fn rest(width: usize, n: usize) -> usize {
 }
 
 // A number at the right edge of a column.
-pub fn right(fd: i32, n: u64, width: usize) {
+pub(crate) fn right(fd: i32, n: u64, width: usize) {
     let mut digits = [0u8; 20];
     let k = io::decimal(n, &mut digits);
     spaces(fd, rest(width, k));
@@ -46,7 +46,7 @@ pub fn right(fd: i32, n: u64, width: usize) {
 }
 
 // Text at the left edge of a column.
-pub fn left(fd: i32, s: &[u8], width: usize) {
+pub(crate) fn left(fd: i32, s: &[u8], width: usize) {
     text(fd, s);
     spaces(fd, rest(width, s.len()));
 }
@@ -62,14 +62,14 @@ fn digits_of(n: u8) -> usize {
     3
 }
 
-pub fn place(fd: i32, p: Place) {
+pub(crate) fn place(fd: i32, p: Place) {
     number(fd, p.track.0 as u64);
     text(fd, b"/");
     number(fd, p.sector.0 as u64);
 }
 
 // A location at the left edge of a column of 9.
-pub fn place_column(fd: i32, p: Place) {
+pub(crate) fn place_column(fd: i32, p: Place) {
     place(fd, p);
     spaces(
         fd,
@@ -78,7 +78,7 @@ pub fn place_column(fd: i32, p: Place) {
 }
 
 // A number of things: one, or any other number of them.
-pub fn count(fd: i32, n: u64, one: &[u8], many: &[u8]) {
+pub(crate) fn count(fd: i32, n: u64, one: &[u8], many: &[u8]) {
     number(fd, n);
     text(fd, b" ");
     if n == 1 {
@@ -134,12 +134,12 @@ fn shown(fd: i32, s: &[u8], top: u8) {
 }
 
 // A file's name: every byte that is no plain character as \xHH, and a backslash doubled.
-pub fn name(fd: i32, s: &[u8]) {
+pub(crate) fn name(fd: i32, s: &[u8]) {
     shown(fd, s, 126);
 }
 
 // A path: the same, but bytes above 7Fh stay, which are letters in most of the world.
-pub fn path(fd: i32, s: &[u8]) {
+pub(crate) fn path(fd: i32, s: &[u8]) {
     if s.len() == 0 {
         text(fd, b"''");
     }
@@ -147,7 +147,7 @@ pub fn path(fd: i32, s: &[u8]) {
 }
 
 // A shown name as the catalog has it.
-pub fn shown_name(fd: i32, n: catalog::Name) {
+pub(crate) fn shown_name(fd: i32, n: catalog::Name) {
     let letters = n.letters;
     name(fd, lists::part(&letters, 0, n.length as usize));
 }
@@ -168,7 +168,7 @@ fn letters_of(kind: u8) -> [u8; 2] {
 }
 
 // Lock, type and sector count of an entry, under the heads of `heads`.
-pub fn entry_columns(fd: i32, locked: u8, kind: u8, sectors: u16) {
+pub(crate) fn entry_columns(fd: i32, locked: u8, kind: u8, sectors: u16) {
     if locked == 0 {
         text(fd, b"       ");
     } else {
@@ -179,7 +179,7 @@ pub fn entry_columns(fd: i32, locked: u8, kind: u8, sectors: u16) {
     right(fd, sectors as u64, 10);
 }
 
-pub fn heads(fd: i32) {
+pub(crate) fn heads(fd: i32) {
     text(fd, b"  lock type sectors    bytes  name\n");
 }
 
@@ -189,7 +189,7 @@ fn word(fd: i32, w: outcome::Word) {
 }
 
 // The front of a refusal: the paper's number and word.
-pub fn refusal(fd: i32, why: u8) {
+pub(crate) fn refusal(fd: i32, why: u8) {
     text(fd, b"refused: ");
     number(fd, why as u64);
     text(fd, b" ");

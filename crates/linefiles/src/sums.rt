@@ -1,5 +1,5 @@
 // Sums that stop growing where no disk, archive or argument goes, so that they fit whatever is added.
-pub fn next(n: u64) -> u64 {
+pub(crate) fn next(n: u64) -> u64 {
     if n < 1000000 {
         return n + 1;
     }
@@ -7,7 +7,7 @@ pub fn next(n: u64) -> u64 {
 }
 
 // One more where it is one.
-pub fn more(n: u64, hit: bool) -> u64 {
+pub(crate) fn more(n: u64, hit: bool) -> u64 {
     if hit {
         return next(n);
     }
@@ -15,7 +15,7 @@ pub fn more(n: u64, hit: bool) -> u64 {
 }
 
 // A place further on.
-pub fn after(i: usize, width: usize) -> usize {
+pub(crate) fn after(i: usize, width: usize) -> usize {
     if i < 1000000 {
         if width < 1000000 {
             return i + width;

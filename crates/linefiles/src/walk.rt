@@ -40,11 +40,11 @@ pub struct Step {
 }
 
 // The sector's number on the disk.
-pub fn sector_number(p: Place) -> usize {
+pub(crate) fn sector_number(p: Place) -> usize {
     16 * (p.track.0 as usize) + p.sector.0 as usize
 }
 
-pub fn poke(bytes: &mut [u8], at: usize, v: u8) {
+pub(crate) fn poke(bytes: &mut [u8], at: usize, v: u8) {
     if at < bytes.len() {
         bytes[at] = v;
     }
@@ -171,7 +171,7 @@ fn at_page(disk: &[u8], why: u8, refusal: u8, pages: u16, from: Place, to: Place
     }
 }
 
-pub fn vtoc() -> Place {
+pub(crate) fn vtoc() -> Place {
     Place {
         track: Track(17),
         sector: Sector(0),
@@ -199,7 +199,7 @@ fn follow_seen(disk: &[u8], why: u8, seen: &mut [u8]) -> u8 {
 }
 
 // Follows the pages of a disk that has a VTOC. `why` is 0 to show them, or the refusal whose place is to be told.
-pub fn follow_pages(disk: &[u8], why: u8) -> u8 {
+pub(crate) fn follow_pages(disk: &[u8], why: u8) -> u8 {
     let mut seen = [0u8; 560];
     follow_seen(disk, why, &mut seen)
 }
@@ -441,7 +441,7 @@ fn follow_page(disk: &[u8], why: u8, fetch: bool, archive: &[u8], p: Place, befo
 }
 
 // Follows the entries of all pages, which were followed before: the first refusal met, or 0. `archive` is that of the disk, or empty.
-pub fn follow_files(disk: &[u8], why: u8, fetch: bool, archive: &[u8]) -> u8 {
+pub(crate) fn follow_files(disk: &[u8], why: u8, fetch: bool, archive: &[u8]) -> u8 {
     let mut p = first_page(disk, 16);
     let mut s = Step {
         refusal: 0,
