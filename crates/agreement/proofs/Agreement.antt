@@ -13,6 +13,8 @@ use Rattle.outcome.specs.Outcome.{given, number, handed, acceptedWith, Hands}
 use Rattle.outcome.proofs.Outcome.{handed-fits, hands-given, hands-left}
 use Rattle.files.specs.Contents.{Contents, Proper, contents}
 use Rattle.files.proofs.Proper.{all-proper}
+use Rattle.stream.specs.declared.Edition.the-variants.{Sixteen}
+use Rattle.stream.specs.Editions.{perTrack}
 use Rattle.stream.specs.Stream.{image}
 use Rattle.stream.proofs.Sizes.{sized-image}
 use Rattle.files.specs.Survey.{blocks}
@@ -22,11 +24,12 @@ use Rattle.archive.proofs.Archive.{archive-injective, writes-archive, check-pas
 use Rattle.agreement.specs.Agreement.{Disk, flat, nibbles, OfBytes, contentsOf, EqualContents, ImageOf, Agreement}
 
 -- where denibblize gave no number, what it wrote is the stream's image
-pub wrote-image : (s before after e : List ℕ) (r : Handed) → Hands (image s) before after r → r .refusal ≡ 0 → e ≡ take 143360 after → image s ≡ given e
+pub wrote-image : (s before after e : List ℕ) (r : Handed) → Hands (image Sixteen s) before after r → r .refusal ≡ 0 → e ≡ take 143360 after → image Sixteen s ≡ given e
+unfolding perTrack
 wrote-image s before after e r h z t =
     let g = hands-given h z in
     let w : List ℕ = g .0 in
-    let f : take 143360 after ≡ w = ap (take 143360) (g .3) ∙ take-at w (drop (length w) before) 143360 (sized-image s w (g .1) .0) in
+    let f : take 143360 after ≡ w = ap (take 143360) (g .3) ∙ take-at w (drop (length w) before) 143360 (sized-image Sixteen s w (g .1) .0) in
     g .1 ∙ ap given (sym (t ∙ f))
 
 -- what writer and checker are handed has the disk's contents ..
@@ -37,7 +40,7 @@ same-contents (nibbles s) d h = rw (wrote-image s (h .0) (h .1) d (h .2) (h .3) 
 -- .. and is bytes
 image-bytes : (a : Disk) (d : List ℕ) → OfBytes a → ImageOf a d → Bytes d
 image-bytes (flat x) d b h = rw h at b
-image-bytes (nibbles s) d b h = sized-image s d (wrote-image s (h .0) (h .1) d (h .2) (h .3) (h .4) (h .5)) .1
+image-bytes (nibbles s) d b h = sized-image Sixteen s d (wrote-image s (h .0) (h .1) d (h .2) (h .3) (h .4) (h .5)) .1
 
 -- the files of a disk of bytes are proper
 proper : (a : Disk) (d : List ℕ) → OfBytes a → ImageOf a d → (c : Contents) → contentsOf a ≡ given c → Every Proper (c .files)

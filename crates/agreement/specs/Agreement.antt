@@ -12,6 +12,7 @@ use Rattle.outcome.specs.Outcome.{Outcome, given, _>>=_}
 use Rattle.files.specs.Contents.{Contents, contents}
 use Rattle.files.specs.Survey.{blocks}
 use Rattle.archive.specs.Archive.{Wrote, Checked}
+use Rattle.stream.specs.declared.Edition.the-variants.{Sixteen}
 use Rattle.stream.specs.Stream.{image, Denibblized}
 
 -- a disk as it arrives: flat, or as nibbles
@@ -27,7 +28,7 @@ OfBytes (nibbles s) = Bytes s
 -- its contents (01: load): a nibble disk is judged by its unrolled image
 abbrev pub contentsOf : Disk → Outcome Contents
 contentsOf (flat d) = contents 16 d
-contentsOf (nibbles s) = image s >>= contents 16
+contentsOf (nibbles s) = image Sixteen s >>= contents 16
 
 -- both disks have contents, and these are equal
 abbrev pub EqualContents : Disk → Disk → Type 0
@@ -36,7 +37,7 @@ EqualContents a b = (c : Contents) × (contentsOf a ≡ given c) × (contentsOf 
 -- e is what writer and checker are handed for a disk: the flat disk itself, or the bytes that a call of denibblize wrote
 abbrev pub ImageOf : Disk → List ℕ → Type 0
 ImageOf (flat d) e = d ≡ e
-ImageOf (nibbles s) e = (before after : List ℕ) × (r : Handed) × Denibblized s before after r × (r .refusal ≡ 0) × (e ≡ take 143360 after)
+ImageOf (nibbles s) e = (before after : List ℕ) × (r : Handed) × Denibblized Sixteen s before after r × (r .refusal ≡ 0) × (e ≡ take 143360 after)
 
 -- demand 3
 pub record Agreement : Type 0 where

@@ -11,6 +11,7 @@ ghost use Rattle.files.specs.Survey.{fetched};
 ghost use Rattle.pairs.specs.Run.{pairRun};
 ghost use Rattle.files.specs.Chosen.{fileOfNumber, listsOfNumber};
 ghost use Rattle.nibble.specs.Nibble.{encoded};
+ghost use Rattle.stream.specs.declared.Edition.the-variants.{Sixteen, Thirteen};
 ghost use Rattle.stream.specs.Stream.{image, sectorOf, nibblized};
 ghost use Rattle.archive.specs.Archive.{archiveOf, check};
 ghost use Prim.Native.Nat.{_≤_};
@@ -143,7 +144,7 @@ pub extern "C" fn dos33_sector(
     out: &mut [u8],
     length: &mut u64,
 ) -> u8
-    ensures { λ r. ⌜ Exports (sectorOf volume track sector (now (stream .entry))) (now (out .entry)) (now (out .exit)) (now (length .entry)) (now (length .exit)) r ⌝ }
+    ensures { λ r. ⌜ Exports (sectorOf Sixteen volume track sector (now (stream .entry))) (now (out .entry)) (now (out .exit)) (now (length .entry)) (now (length .exit)) r ⌝ }
 {
     let answer = stream::sector(stream, volume, track, sector, out);
     tell(answer, length)
@@ -152,9 +153,34 @@ pub extern "C" fn dos33_sector(
 // The flat disk of a stream. 8, 11, 9, 10, 12.
 #[no_mangle]
 pub extern "C" fn dos33_denibblize(stream: &[u8], out: &mut [u8], length: &mut u64) -> u8
-    ensures { λ r. ⌜ Exports (image (now (stream .entry))) (now (out .entry)) (now (out .exit)) (now (length .entry)) (now (length .exit)) r ⌝ }
+    ensures { λ r. ⌜ Exports (image Sixteen (now (stream .entry))) (now (out .entry)) (now (out .exit)) (now (length .entry)) (now (length .exit)) r ⌝ }
 {
     let answer = stream::denibblize(stream, out);
+    tell(answer, length)
+}
+
+// A sector of a stream of 13 sectors a track, by the key of its address field. 8, 9, 10, 12.
+#[no_mangle]
+pub extern "C" fn dos33_sector_13(
+    stream: &[u8],
+    volume: u8,
+    track: u8,
+    sector: u8,
+    out: &mut [u8],
+    length: &mut u64,
+) -> u8
+    ensures { λ r. ⌜ Exports (sectorOf Thirteen volume track sector (now (stream .entry))) (now (out .entry)) (now (out .exit)) (now (length .entry)) (now (length .exit)) r ⌝ }
+{
+    let answer = stream::sector_13(stream, volume, track, sector, out);
+    tell(answer, length)
+}
+
+// The flat disk of a stream of 13 sectors a track. 8, 11, 9, 10, 12.
+#[no_mangle]
+pub extern "C" fn dos33_denibblize_13(stream: &[u8], out: &mut [u8], length: &mut u64) -> u8
+    ensures { λ r. ⌜ Exports (image Thirteen (now (stream .entry))) (now (out .entry)) (now (out .exit)) (now (length .entry)) (now (length .exit)) r ⌝ }
+{
+    let answer = stream::denibblize_13(stream, out);
     tell(answer, length)
 }
 

@@ -11,6 +11,7 @@ use outcome::ABSENT;
 use outcome::ADDRESS_SUM;
 use outcome::DATA_SUM;
 use outcome::STRANGER;
+use stream::Edition;
 use stream::FieldPair;
 use stream::dos_sector;
 use stream::find_mark;
@@ -108,7 +109,7 @@ fn told(s: &[u8], why: u8, i: usize, p: FieldPair, volume: u8, seen: &[u8]) -> b
 fn tell_pairs(s: &[u8], why: u8, volume: u8, seen: &mut [u8]) {
     let mut i: usize = 0;
     for turn in 0..4096u16 {
-        let p = parse_nib_sector(s, i);
+        let p = parse_nib_sector(s, i, Edition::Sixteen);
         if told(s, why, i, p, volume, seen) {
             return;
         }
@@ -163,7 +164,7 @@ fn tell_absent(s: &[u8], seen: &[u8]) {
 // Tells the place of a refusal of denibblize.
 pub(crate) fn tell(s: &[u8], why: u8) {
     let mut seen = [0u8; 560];
-    let first = parse_nib_sector(s, 0);
+    let first = parse_nib_sector(s, 0, Edition::Sixteen);
     tell_pairs(s, why, first.volume, &mut seen);
     if why == ABSENT {
         tell_absent(s, &seen);

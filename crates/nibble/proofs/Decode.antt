@@ -1,4 +1,4 @@
--- `read`, `sum_with`, `values_with`, `put_bytes` and `decode_sector` over plain variables. Assumes nothing.
+-- `data_sum`, `values_of`, `put_bytes` and `decode_sector` over plain variables. Assumes nothing.
 use mathlib.Core.Path.{_≡_, refl, sym, ap, _∙_}
 use mathlib.Core.Bool.{Bool}
 use mathlib.Core.List.{List, [], _++_, append-nil}
@@ -6,129 +6,71 @@ use Prim.Native.Nat.{ℕ, _+_, _-_, _*_, _/_, _%_, _≤_, _<_}
 use native.Mathlib.Omega.{arith}
 use borrow.Author.Needs.{needs}
 use borrow.Author.Tests.{lt-ltb, le-ltb, eq-eqb, ne-eqb}
-use lib.Bits.{bitXor, xor-comm}
-use lib.Dec.{eqb, eqb→eq}
-use lib.ListN.{length, set, getD, drop, replicate, length-replicate, drop-of-length-le}
-use Rattle.lists.specs.Fill.{beforeOf, filled, padded, placed}
-use Rattle.lists.proofs.Laws.{Filling, fill-none, fill-step, fill-again, fill-self, fill-whole, before-next, getD-tab, length-padded, placed-zeros}
+use lib.Dec.{eqb, eqb→eq, ltb, ltb→lt}
+use lib.ListN.{length, set, getD, drop, replicate, length-replicate, drop-of-length-le, List·getD-eq-default}
+use Rattle.lists.specs.Fill.{tab, filled, padded, placed}
+use Rattle.lists.proofs.Laws.{Filling, fill-none, fill-again, getD-tab, length-padded}
+use Rattle.lists.proofs.Put.{Put, put-is-front}
+use Rattle.lists.proofs.Placed.{placed-short, placed-fits}
 use Rattle.lists.proofs.Table.{test-at}
-use Rattle.lists.proofs.Bits.{xor-assoc}
+use Rattle.lists.proofs.Split.{by-lt}
 use Rattle.outcome.specs.declared.Handed.{Handed}
 use Rattle.outcome.specs.declared.Refusal.the-variants.{DataSum}
 use Rattle.outcome.specs.Outcome.{given, refusedWith, acceptedWith, Hands}
 use Rattle.outcome.proofs.Outcome.{hands-refused, hands-short, hands-over}
-use Rattle.nibble.specs.Nibble.{writes, placeIn, reads, low, readOf, valAt, valuesOf, byteFrom, decode, decoded}
-use Rattle.nibble.proofs.Callers.{length-decode, val-padded, values-padded}
-use Rattle.nibble.proofs.RoundTrip.{val-step}
+use Rattle.nibble.specs.Running.{runAt, looked}
+use Rattle.nibble.specs.Nibble.{writes, writeOf, placeIn, reads, low, readOf, valAt, valuesOf, byteFrom, decode, decoded}
+use Rattle.nibble.proofs.Callers.{length-decode}
+use Rattle.nibble.proofs.RoundTrip.{read-other}
+use Rattle.nibble.proofs.Ranges.{Ranged, step, next}
+use Rattle.nibble.proofs.Runs.{lengthens, sum-short, sum-long, values-short, values-long}
 
 -- ---- the table
 right : ℕ → ℕ → Bool
 right k x = eqb x (readOf k)
 
-pub reads-at : (t : List ℕ) (b : ℕ) → t ≡ reads → b < 256 → getD t b 0 ≡ readOf b
-unfolding reads right writes placeIn readOf
-reads-at t b e h = rw e (eqb→eq (getD reads b 0) (readOf b) (test-at right reads tt b h))
+byte-right : ℕ → ℕ → Bool
+byte-right k x = ltb x 256
 
-pub ruleset readings = (reads-at, needs)
+-- each nibble of the write table is a byte
+writes-lt : (v : ℕ) → v < 64 → writeOf v < 256
+unfolding writes writeOf byte-right
+writes-lt v h = ltb→lt (writeOf v) 256 (test-at byte-right writes tt v h)
 
--- ---- two chains of the sum: l and m together are the values so far
-four : (l m a b : ℕ) → bitXor (bitXor l a) (bitXor m b) ≡ bitXor (bitXor (bitXor l m) a) b
-four l m a b =
-    let e : bitXor (bitXor l a) m ≡ bitXor (bitXor l m) a = xor-assoc l a m ∙ ap (bitXor l) (xor-comm a m) ∙ sym (xor-assoc l m a) in
-    sym (xor-assoc (bitXor l a) m b) ∙ rw e refl
+-- the read table says of each number what the rule says
+pub reads-at : (t : List ℕ) → t ≡ reads → (b : ℕ) → looked t b ≡ readOf b
+unfolding reads right writes placeIn readOf looked
+reads-at t e b =
+    rw e
+    (by-lt b 256 (λ h. eqb→eq (getD reads b 0) (readOf b) (test-at right reads tt b h))
+    (λ h. List·getD-eq-default reads 0 {n = b} h ∙ sym (read-other b (λ v l q. omega (arith, writes-lt v l)))))
 
-pub record Chains (n : List ℕ) (l m k : ℕ) : Type 0 where
-  pub count : k ≤ 342
-  pub even : k % 2 ≡ 0
-  pub both : bitXor l m ≡ beforeOf (valAt n) k
-
-pub chains-start : (n : List ℕ) → Chains n 0 0 0
-unfolding beforeOf
-chains-start n = record { count = omega arith; even = refl; both = refl }
-
-pub chains-turn : (n : List ℕ) (l m k a b : ℕ) → Chains n l m k → k < 342 → a ≡ readOf (getD n k 0) → b ≡ readOf (getD n (k + 1) 0)
-    → Chains n (bitXor l a) (bitXor m b) (k + 2)
-chains-turn n l m k a b i h p q =
-    let u : bitXor (bitXor l m) a ≡ valAt n k = cc (val-step n k, i .both) in
-    let u′ : bitXor (bitXor l m) a ≡ beforeOf (valAt n) (k + 1) = before-next _ _ _ u in
-    let w : bitXor (bitXor (bitXor l m) a) b ≡ valAt n (k + 1) = cc (val-step n (k + 1)) in
-    let w′ : bitXor (bitXor (bitXor l m) a) b ≡ beforeOf (valAt n) (k + 1 + 1) = before-next (valAt n) (k + 1) _ w in
-    let e : k + 1 + 1 ≡ k + 2 = omega arith in
-    record { count = omega (arith, i .even); even = omega (arith, i .even); both = four l m a b ∙ (rw e at w′) }
-
-pub sum-done : (n : List ℕ) (l m k a : ℕ) → Chains n l m k → 342 ≤ k → a ≡ readOf (getD n 342 0) → bitXor (bitXor l m) a ≡ valAt n 342
-sum-done n l m k a i h p =
-    let e : k ≡ 342 = omega (arith, i .count) in
-    let u : bitXor l m ≡ beforeOf (valAt n) 342 = rw e at (i .both) in
-    rw (u, p) (sym (val-step n 342))
-
-pub ruleset sums = (chains-start, chains-turn, sum-done, needs)
-
--- ---- the values: l is the last
-pub record Vals (n v₀ v : List ℕ) (l k : ℕ) : Type 0 where
-  pub count : k ≤ 343
-  pub long : length v ≡ 343
-  pub last : l ≡ beforeOf (valAt n) k
-  pub fills : Filling (valAt n) k v₀ v
-
-pub start : (n v : List ℕ) → length v ≡ 343 → Vals n v v 0 0
-unfolding beforeOf
-start n v h = record { count = omega arith; long = h; last = refl; fills = fill-none _ _ }
-
-pub turn : (n v₀ v : List ℕ) (l k r : ℕ) → Vals n v₀ v l k → k < 343 → r ≡ readOf (getD n k 0)
-    → Vals n v₀ (set v k (bitXor l r)) (bitXor l r) (k + 1)
-turn n v₀ v l k r i h e =
-    let q : bitXor l r ≡ valAt n k = cc (val-step n k, i .last) in
-    let f : Filling (valAt n) (k + 1) v₀ (set v k (bitXor l r)) = fill-step (i .fills) (omega arith) q in
-    record { count = omega arith; long = omega arith; last = before-next _ _ _ q; fills = f }
-
-pub vals-are : (n v₀ v : List ℕ) (l k : ℕ) → Vals n v₀ v l k → 343 ≤ k → v ≡ valuesOf n
-unfolding valuesOf
-vals-are n v₀ v l k i h = fill-whole 343 (i .fills) (i .count) h (omega arith)
-
-pub ruleset valued = (start, turn, vals-are, needs)
-
--- ---- the bytes: places a to e are filled by a loop of their own, o₀ is the buffer as that loop began
-pub record Unpacking (v o₀ o : List ℕ) (a e i : ℕ) : Type 0 where
-  pub lower : a ≤ i
-  pub upper : i ≤ e
-  pub room : 256 ≤ length o₀
-  pub fills : Filling (byteFrom v) i o₀ o
-
-step : {v o₀ o : List ℕ} {a e i : ℕ} (r : ℕ) → Unpacking v o₀ o a e i → i < e → e ≤ 256 → r ≡ byteFrom v i → Unpacking v o₀ (set o i r) a e (i + 1)
-step r b h l q =
-    record { lower = omega (arith, b .lower); upper = omega arith; room = b .room; fills = fill-step (b .fills) (omega (arith, b .room)) q }
-
--- the next range
-next : {v o₀ o : List ℕ} {a e i : ℕ} (e′ : ℕ) → Unpacking v o₀ o a e i → e ≤ i → e ≤ e′ → e′ ≤ 256 → Unpacking v o o e e′ i
-next e′ b h l m =
-    record { lower = h; upper = omega (arith, b .upper); room = omega (arith, b .room, b .fills .long); fills = fill-self (b .fills) (omega (arith, b .room, b .upper)) }
-
-pub bytes-start : (v o : List ℕ) → 256 ≤ length o → Unpacking v o o 0 86 0
+-- ---- the bytes: a loop for each range of places
+pub bytes-start : (v o : List ℕ) → 256 ≤ length o → Ranged (byteFrom v) 256 o o 0 86 0
 bytes-start v o h = record { lower = omega arith; upper = omega arith; room = h; fills = fill-none _ _ }
 
-pub turn-0 : (v o₀ o : List ℕ) (i r : ℕ) → Unpacking v o₀ o 0 86 i → i < 86
-    → r ≡ getD v (i + 86) 0 % 64 * 4 + low (getD v i 0) → Unpacking v o₀ (set o i r) 0 86 (i + 1)
+pub turn-0 : (v o₀ o : List ℕ) (i r : ℕ) → Ranged (byteFrom v) 256 o₀ o 0 86 i → i < 86
+    → r ≡ getD v (i + 86) 0 % 64 * 4 + low (getD v i 0) → Ranged (byteFrom v) 256 o₀ (set o i r) 0 86 (i + 1)
 unfolding byteFrom
 turn-0 v o₀ o i r b h q = step r b h (omega arith) (rw (lt-ltb i 86 h) q)
 
-pub next-1 : (v o₀ o : List ℕ) (i : ℕ) → Unpacking v o₀ o 0 86 i → 86 ≤ i → Unpacking v o o 86 172 i
+pub next-1 : (v o₀ o : List ℕ) (i : ℕ) → Ranged (byteFrom v) 256 o₀ o 0 86 i → 86 ≤ i → Ranged (byteFrom v) 256 o o 86 172 i
 next-1 v o₀ o i b h = next 172 b h (omega arith) (omega arith)
 
-pub turn-1 : (v o₀ o : List ℕ) (i r : ℕ) → Unpacking v o₀ o 86 172 i → i < 172
-    → r ≡ getD v (i + 86) 0 % 64 * 4 + low (getD v (i - 86) 0 / 4) → Unpacking v o₀ (set o i r) 86 172 (i + 1)
+pub turn-1 : (v o₀ o : List ℕ) (i r : ℕ) → Ranged (byteFrom v) 256 o₀ o 86 172 i → i < 172
+    → r ≡ getD v (i + 86) 0 % 64 * 4 + low (getD v (i - 86) 0 / 4) → Ranged (byteFrom v) 256 o₀ (set o i r) 86 172 (i + 1)
 unfolding byteFrom
 turn-1 v o₀ o i r b h q = step r b h (omega arith) (rw (le-ltb i 86 (b .lower), lt-ltb i 172 h) q)
 
-pub next-2 : (v o₀ o : List ℕ) (i : ℕ) → Unpacking v o₀ o 86 172 i → 172 ≤ i → Unpacking v o o 172 256 i
+pub next-2 : (v o₀ o : List ℕ) (i : ℕ) → Ranged (byteFrom v) 256 o₀ o 86 172 i → 172 ≤ i → Ranged (byteFrom v) 256 o o 172 256 i
 next-2 v o₀ o i b h = next 256 b h (omega arith) (omega arith)
 
-pub turn-2 : (v o₀ o : List ℕ) (i r : ℕ) → Unpacking v o₀ o 172 256 i → i < 256
-    → r ≡ getD v (i + 86) 0 % 64 * 4 + low (getD v (i - 172) 0 / 16) → Unpacking v o₀ (set o i r) 172 256 (i + 1)
+pub turn-2 : (v o₀ o : List ℕ) (i r : ℕ) → Ranged (byteFrom v) 256 o₀ o 172 256 i → i < 256
+    → r ≡ getD v (i + 86) 0 % 64 * 4 + low (getD v (i - 172) 0 / 16) → Ranged (byteFrom v) 256 o₀ (set o i r) 172 256 (i + 1)
 unfolding byteFrom
 turn-2 v o₀ o i r b h q = step r b h (omega arith) (rw (le-ltb i 86 (omega (arith, b .lower)), le-ltb i 172 (b .lower)) q)
 
-pub bytes-done : (v o₀ o₁ o₂ o₃ : List ℕ) (i j k : ℕ) → Unpacking v o₀ o₁ 0 86 i → Unpacking v o₁ o₂ 86 172 j → Unpacking v o₂ o₃ 172 256 k → 256 ≤ k
+pub bytes-done : (v o₀ o₁ o₂ o₃ : List ℕ) (i j k : ℕ) → Ranged (byteFrom v) 256 o₀ o₁ 0 86 i → Ranged (byteFrom v) 256 o₁ o₂ 86 172 j → Ranged (byteFrom v) 256 o₂ o₃ 172 256 k → 256 ≤ k
     → o₃ ≡ filled (byteFrom v) 256 o₀
 bytes-done v o₀ o₁ o₂ o₃ i j k a b c h =
     let e : k ≡ 256 = omega (arith, c .upper) in
@@ -139,17 +81,21 @@ bytes-done v o₀ o₁ o₂ o₃ i j k a b c h =
 pub ruleset byted = (bytes-start, turn-0, next-1, turn-1, next-2, turn-2, bytes-done, needs)
 
 -- ---- nibbles of any length
-pub sum-short : (n a : List ℕ) (r : ℕ) → a ≡ padded 343 n → r ≡ valAt a 342 → r ≡ valAt n 342
-sum-short n a r e q = q ∙ rw e (val-padded 343 n 342)
+pub short-sum : (t n a : List ℕ) (r : ℕ) → t ≡ reads → a ≡ padded 343 n → r ≡ runAt (looked t) a 342 → r ≡ valAt n 342
+short-sum t n a r e = sum-short t readOf (reads-at t e) 343 342 n a r
 
-pub values-short : (n a r : List ℕ) → a ≡ padded 343 n → r ≡ valuesOf a → r ≡ valuesOf n
-values-short n a r e q = q ∙ rw e (values-padded 343 n)
+pub long-sum : (t n : List ℕ) (r : ℕ) → t ≡ reads → r ≡ runAt (looked t) n 342 → r ≡ valAt n 342
+long-sum t n r e = sum-long t readOf (reads-at t e) 342 n r
 
--- what a copy to the front of zeros makes
-pub lengthens : (n a z : List ℕ) → length n ≤ 343 → z ≡ replicate 343 0 → a ≡ placed 0 n z → a ≡ padded 343 n
-lengthens n a z h y e = e ∙ rw y (placed-zeros 343 n h)
+pub short-values : (t n a r : List ℕ) → t ≡ reads → a ≡ padded 343 n → r ≡ tab (runAt (looked t) a) 343 → r ≡ valuesOf n
+unfolding valuesOf
+short-values t n a r e = values-short t readOf (reads-at t e) 343 343 n a r
 
-pub ruleset lengthened = (sum-short, values-short, lengthens, length-padded, needs)
+pub long-values : (t n r : List ℕ) → t ≡ reads → r ≡ tab (runAt (looked t) n) 343 → r ≡ valuesOf n
+unfolding valuesOf
+long-values t n r e = values-long t readOf (reads-at t e) 343 n r
+
+pub ruleset lengthened = (short-sum, long-sum, short-values, long-values, lengthens, length-padded, needs)
 
 -- ---- the returns of decode_sector
 sum-is : (n v : List ℕ) → v ≡ valuesOf n → getD v 342 0 ≡ valAt n 342
@@ -172,13 +118,17 @@ unpacked : (n v o₀ o : List ℕ) → v ≡ valuesOf n → o ≡ filled (byteFr
 unfolding decode filled
 unpacked n v o₀ o e f = f ∙ rw e refl
 
--- the bytes in an array of their own
-pub data-is : (n v o₀ o : List ℕ) → v ≡ valuesOf n → o₀ ≡ replicate 256 0 → o ≡ filled (byteFrom v) 256 o₀ → o ≡ decode n
-data-is n v o₀ o e z f =
-    let l : drop 256 o₀ ≡ [] = drop-of-length-le o₀ {i = 256} (rw z (omega (arith, length-replicate {A = ℕ} 256 0))) in
-    unpacked n v o₀ o e f ∙ rw l (append-nil (decode n))
+-- ---- the returns of sector_data
+pub data-short : (n o : List ℕ) → length o < 256 → o ≡ placed 0 (decode n) o
+data-short n o l = placed-short 0 (decode n) o (omega arith) (rw (length-decode n) (omega arith))
 
-pub ruleset unpacks = (data-is, needs)
+pub data-is : (n v o₀ o : List ℕ) → v ≡ valuesOf n → 256 ≤ length o₀ → o ≡ filled (byteFrom v) 256 o₀ → o ≡ placed 0 (decode n) o₀
+data-is n v o₀ o e room f =
+    let l : length (decode n) ≡ 256 = length-decode n in
+    let p : Put 0 (decode n) o₀ o = put-is-front 256 (unpacked n v o₀ o e f) l room in
+    placed-fits 0 (decode n) o₀ o (omega arith) (rw l (omega arith)) (p .is)
+
+pub ruleset unpacks = (data-short, data-is, needs)
 
 pub done : (n v o₀ o : List ℕ) (h : Handed) → v ≡ valuesOf n → getD v 342 0 ≡ 0 → 256 ≤ length o₀ → o ≡ filled (byteFrom v) 256 o₀
     → h ≡ acceptedWith 256 → Hands (decoded n) o₀ o h

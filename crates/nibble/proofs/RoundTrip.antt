@@ -15,6 +15,7 @@ use Rattle.lists.proofs.Table.{test-at}
 use Rattle.lists.proofs.Bits.{xor-cancel-r}
 use Rattle.nibble.specs.Nibble.{writes, writeOf, placeIn, readOf, low, valueOf, nibbleOf, encode, valAt, valuesOf, byteFrom, stepOf, decode, decoded}
 use Rattle.outcome.specs.Outcome.{given}
+use Rattle.nibble.proofs.Runs.{run-step}
 
 -- ---- the tables
 right : ℕ → ℕ → Bool
@@ -25,7 +26,7 @@ unfolding writes writeOf placeIn readOf right
 read-write v h = eqb→eq (readOf (writeOf v)) v (test-at right writes tt v h)
 
 -- what is at no place of a list
-place-none : (b i : ℕ) (xs : List ℕ) → ((k : ℕ) → k < length xs → b ≡ getD xs k 0 → ⊥) → placeIn b i xs ≡ 0
+pub place-none : (b i : ℕ) (xs : List ℕ) → ((k : ℕ) → k < length xs → b ≡ getD xs k 0 → ⊥) → placeIn b i xs ≡ 0
 unfolding placeIn
 place-none b i [] h = refl
 place-none b i (x ∷ xs) h = rw (ne-eqb b x (h zero (omega arith))) (place-none b (suc i) xs (λ k l. h (suc k) (omega arith)))
@@ -76,17 +77,12 @@ unfolding beforeOf
 before-lt f h zero = omega arith
 before-lt f h (suc k) = h k
 
--- ---- the running exclusive or
-pub val-step : (n : List ℕ) (k : ℕ) → valAt n k ≡ bitXor (beforeOf (valAt n) k) (readOf (getD n k 0))
-unfolding beforeOf valAt
-val-step n zero = refl
-val-step n (suc k) = refl
-
+-- ---- the values of what was encoded
 module _ (d : List ℕ) (b : Bytes d) where
   turn : (k : ℕ) → k < 343 → beforeOf (valAt (encode d)) k ≡ beforeOf (valueOf d) k → valAt (encode d) k ≡ valueOf d k
   unfolding encode nibbleOf stepOf
   turn k h e =
-      val-step (encode d) k
+      run-step readOf (encode d) k
       ∙ rw (e, getD-tab (nibbleOf d) 343 k 0 h, read-write _ (xor-lt 6 _ _ (value-lt d b k) (before-lt (valueOf d) (value-lt d b) k)))
       (xor-cancel-r (beforeOf (valueOf d) k) (valueOf d k))
 

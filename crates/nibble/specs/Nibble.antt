@@ -8,6 +8,7 @@ use lib.Bits.{bitXor, bitAnd, bitOr}
 use lib.Dec.{ltb, eqb}
 use lib.ListN.{length, getD}
 use Rattle.lists.specs.Fill.{tab, beforeOf}
+use Rattle.nibble.specs.Running.{runAt}
 use Rattle.outcome.specs.declared.Refusal.the-variants.{OffSize, DataSum}
 use Rattle.outcome.specs.Outcome.{Outcome, given, _>>_, require}
 
@@ -74,9 +75,8 @@ encoded s = require (eqb (length s) 256) OffSize >> given (encode s)
 
 -- ---- decoding
 -- value k of the nibbles n: the running XOR of what is read. Past the end of n stands 0.
-unfoldable pub valAt : List ℕ → ℕ → ℕ
-valAt n zero = readOf (getD n zero 0)
-valAt n (suc k) = bitXor (valAt n k) (readOf (getD n (suc k) 0))
+abbrev pub valAt : List ℕ → ℕ → ℕ
+valAt n k = runAt readOf n k
 
 -- all values, the sum's among them
 unfoldable pub valuesOf : List ℕ → List ℕ

@@ -1,12 +1,15 @@
-// The 4-and-4 and 6-and-2 codings of Apple DOS 3.3 (nibble.rs): a byte to two bytes, 256 bytes to 343 nibbles, and back.
+// The 4-and-4 and 6-and-2 codings of Apple DOS 3.3 (nibble.rs): a byte to two bytes, 256 bytes to 343 nibbles, and back. `five_three` has the coding of DOS 3.2.
+pub mod five_three;
+mod running;
 mod tables;
 
 ghost use mathlib.Core.Path.{_≡_};
 ghost use Prim.Native.Nat.{_+_, _-_, _*_, _/_, _%_, _≤_, _<_};
 ghost use lib.Bits.{bitAnd};
 ghost use lib.ListN.{length};
-ghost use Rattle.lists.specs.Fill.{filled, padded};
+ghost use Rattle.lists.specs.Fill.{tab, filled, padded, placed};
 ghost use Rattle.outcome.specs.Outcome.{Hands};
+ghost use Rattle.nibble.specs.Running.{runAt, looked};
 ghost use Rattle.nibble.specs.Nibble.{of44, four, writes, reads, writeOf, readOf, low, valAt, valuesOf, byteFrom, encoded, decode, decoded, LowsOf, StepsOf};
 use lists::copy_at;
 use outcome::DATA_SUM;
@@ -15,6 +18,8 @@ use outcome::OFF_SIZE;
 use outcome::TRAY_SHORT;
 use outcome::accepted;
 use outcome::refused;
+use running::put_values;
+use running::sum_with;
 use tables::reading;
 use tables::writing;
 
@@ -130,46 +135,6 @@ pub fn encode_sector(src: &[u8], out: &mut [u8]) -> Handed
     accepted(343)
 }
 
-// The value of a nibble, from the table that the caller holds.
-fn read(table: &[u8; 256], b: u8) -> u8
-    requires { ⌜ now table ≡ reads ⌝ }
-    ensures { λ r. ⌜ r ≡ readOf b ⌝ }
-{
-    table[b as usize]
-}
-
-// The exclusive or of 343 nibbles' values, in two chains.
-fn sum_with(table: &[u8; 256], nibbles: &[u8]) -> u8
-    requires { ⌜ (now table ≡ reads) × (343 ≤ length (now nibbles)) ⌝ }
-    ensures { λ r. ⌜ r ≡ valAt (now (nibbles .entry)) 342 ⌝ }
-{
-    let mut even: u8 = 0;
-    let mut odd: u8 = 0;
-    let mut k: usize = 0;
-    while k < 342 {
-        even = even ^ read(table, nibbles[k]);
-        odd = odd ^ read(table, nibbles[k + 1]);
-        k += 2;
-    }
-    even ^ odd ^ read(table, nibbles[342])
-}
-
-// The values of 343 nibbles.
-fn values_with(table: &[u8; 256], nibbles: &[u8]) -> [u8; 343]
-    requires { ⌜ (now table ≡ reads) × (343 ≤ length (now nibbles)) ⌝ }
-    ensures { λ r. ⌜ r ≡ valuesOf (now (nibbles .entry)) ⌝ }
-{
-    let mut vals = [0u8; 343];
-    let mut last: u8 = 0;
-    let mut k: usize = 0;
-    while k < 343 {
-        last = last ^ read(table, nibbles[k]);
-        vals[k] = last;
-        k += 1;
-    }
-    vals
-}
-
 // Nibbles with zeros behind them.
 fn lengthened(nibbles: &[u8]) -> [u8; 343]
     requires { ⌜ length (now nibbles) ≤ 343 ⌝ }
@@ -187,9 +152,9 @@ pub fn data_sum(nibbles: &[u8]) -> u8
     let table = reading();
     if nibbles.len() < 343 {
         let all = lengthened(nibbles);
-        return sum_with(&table, &all);
+        return sum_with(&table, &all, 342);
     }
-    sum_with(&table, nibbles)
+    sum_with(&table, nibbles, 342)
 }
 
 // The values of the first 343 nibbles (in the Rust data_field_build_buffer). Past the end of the slice zeros are read.
@@ -197,11 +162,14 @@ fn values_of(nibbles: &[u8]) -> [u8; 343]
     ensures { λ r. ⌜ r ≡ valuesOf (now (nibbles .entry)) ⌝ }
 {
     let table = reading();
+    let mut vals = [0u8; 343];
     if nibbles.len() < 343 {
         let all = lengthened(nibbles);
-        return values_with(&table, &all);
+        put_values(&table, &all, &mut vals);
+        return vals;
     }
-    values_with(&table, nibbles)
+    put_values(&table, nibbles, &mut vals);
+    vals
 }
 
 // A byte of its high bits and the two low bits of l.
@@ -231,14 +199,15 @@ fn put_bytes(vals: &[u8; 343], out: &mut [u8])
     }
 }
 
-// The 256 bytes of a sector, whatever the sum is. Past the end of the slice zeros are read.
-pub fn sector_data(nibbles: &[u8]) -> [u8; 256]
-    ensures { λ r. ⌜ r ≡ decode (now (nibbles .entry)) ⌝ }
+// Puts the 256 bytes of a sector to the front of out, whatever the sum is; where they do not fit, out stays as it is. Past the end of the nibbles zeros are read.
+pub fn sector_data(nibbles: &[u8], out: &mut [u8])
+    ensures { λ _. ⌜ now (out .exit) ≡ placed 0 (decode (now (nibbles .entry))) (now (out .entry)) ⌝ }
 {
+    if out.len() < 256 {
+        return;
+    }
     let vals = values_of(nibbles);
-    let mut data = [0u8; 256];
-    put_bytes(&vals, &mut data);
-    data
+    put_bytes(&vals, out);
 }
 
 // The 256 bytes of a sector (in the Rust transform_data_field); refusals 9, 12. Past the end of the slice zeros are read.

@@ -13,21 +13,24 @@ use lib.Seq.{drop-drop}
 use Rattle.lists.proofs.Split.{by-lt, by-test, both-true, clash}
 use Rattle.outcome.specs.declared.Refusal.the-variants.{AddressSum}
 use Rattle.outcome.specs.Outcome.{Outcome, refused, given, _>>=_}
+use Rattle.stream.specs.declared.Edition.{Edition}
+use Rattle.stream.specs.Editions.{markOf, nibblesOf}
 use Rattle.stream.specs.Stream.{after, Field, fields, fromData, fromAddress}
 use Rattle.stream.specs.Scan.{byteAt4, placeAfter, noAddress, noPair, pairFrom}
 use Rattle.stream.specs.Steps.{fieldsFrom, fieldOf, Run}
 use Rattle.stream.specs.declared.FieldPair.{FieldPair}
+use Rattle.stream.proofs.Numbers.{mark-some}
 use Rattle.stream.proofs.Scanning.{field, behind, fields-fuel}
 use Rattle.stream.proofs.Scan.{no-mark, cut-off, bad-sum, address-is, no-data, data-cut, data-is, pair-none, pair-cut, pair-is}
 
 -- all of them
-pub from-start : (s : List ℕ) → fieldsFrom s 0 ≡ fields (length s) s
+pub from-start : (ed : Edition) (s : List ℕ) → fieldsFrom ed s 0 ≡ fields ed (length s) s
 unfolding fieldsFrom
-from-start s = refl
+from-start ed s = refl
 
-step : (s : List ℕ) (i : ℕ) → fieldsFrom s i ≡ fromAddress (fields (length s)) (after 0x96 (drop i s))
+step : (ed : Edition) (s : List ℕ) (i : ℕ) → fieldsFrom ed s i ≡ fromAddress ed (fields ed (length s)) (after (markOf ed) (drop i s))
 unfolding fieldsFrom fields
-step s i = fields-fuel (length s) (suc (length s)) (drop i s) (rw (length-drop i s) (omega arith)) (rw (length-drop i s) (omega arith))
+step ed s i = fields-fuel ed (length s) (suc (length s)) (drop i s) (rw (length-drop i s) (omega arith)) (rw (length-drop i s) (omega arith))
 
 -- ---- the place after a mark
 -- what stands after a mark is an end of the list
@@ -69,126 +72,126 @@ unfolding placeAfter
 missing c s i e = rw e refl
 
 -- ---- the three ways in which a step goes
-pub data Step (s : List ℕ) (i : ℕ) : Type 0 where
-  bad : noPair 8 ≡ pairFrom s i → fieldsFrom s i ≡ refused AddressSum → Step s i
-  end : noPair 0 ≡ pairFrom s i → fieldsFrom s i ≡ given [] → Step s i
-  more : (v t p j : ℕ) → record { refusal = 0; volume = v; track = t; sector = p; nibbles = j; next = j + 346 } ≡ pairFrom s i
-      → i < j → j + 346 ≤ length s → fieldsFrom s i ≡ behind (field v t p (take 343 (drop j s))) (fieldsFrom s (j + 346)) → Step s i
+pub data Step (ed : Edition) (s : List ℕ) (i : ℕ) : Type 0 where
+  bad : noPair 8 ≡ pairFrom ed s i → fieldsFrom ed s i ≡ refused AddressSum → Step ed s i
+  end : noPair 0 ≡ pairFrom ed s i → fieldsFrom ed s i ≡ given [] → Step ed s i
+  more : (v t p j : ℕ) → record { refusal = 0; volume = v; track = t; sector = p; nibbles = j; next = j + (nibblesOf ed + 3) } ≡ pairFrom ed s i
+      → i < j → j + (nibblesOf ed + 3) ≤ length s → fieldsFrom ed s i ≡ behind (field v t p (take (nibblesOf ed) (drop j s))) (fieldsFrom ed s (j + (nibblesOf ed + 3))) → Step ed s i
 
 -- the list side
-from-none : (s : List ℕ) (i : ℕ) → after 0x96 (drop i s) ≡ none → fieldsFrom s i ≡ given []
+from-none : (ed : Edition) (s : List ℕ) (i : ℕ) → after (markOf ed) (drop i s) ≡ none → fieldsFrom ed s i ≡ given []
 unfolding fromAddress
-from-none s i e = step s i ∙ rw e refl
+from-none ed s i e = step ed s i ∙ rw e refl
 
-module _ (s : List ℕ) (i j : ℕ) (e : after 0x96 (drop i s) ≡ some (drop j s)) where
-  from-short : length s - j < 11 → fieldsFrom s i ≡ given []
+module _ (ed : Edition) (s : List ℕ) (i j : ℕ) (e : after (markOf ed) (drop i s) ≡ some (drop j s)) where
+  from-short : length s - j < 11 → fieldsFrom ed s i ≡ given []
   unfolding fromAddress
-  from-short h = step s i ∙ rw (e, lt-ltb (length (drop j s)) 11 (rw (length-drop j s) h)) refl
+  from-short h = step ed s i ∙ rw (e, lt-ltb (length (drop j s)) 11 (rw (length-drop j s) h)) refl
 
   module _ (h : 11 ≤ length s - j) where
-    from-bad : eqb (byteAt4 s j 3) (bitXor (bitXor (byteAt4 s j 0) (byteAt4 s j 1)) (byteAt4 s j 2)) ≡ false → fieldsFrom s i ≡ refused AddressSum
+    from-bad : eqb (byteAt4 s j 3) (bitXor (bitXor (byteAt4 s j 0) (byteAt4 s j 1)) (byteAt4 s j 2)) ≡ false → fieldsFrom ed s i ≡ refused AddressSum
     unfolding fromAddress byteAt4
-    from-bad t = step s i ∙ rw (e, le-ltb (length (drop j s)) 11 (rw (length-drop j s) h), t) refl
+    from-bad t = step ed s i ∙ rw (e, le-ltb (length (drop j s)) 11 (rw (length-drop j s) h), t) refl
 
     module _ (t : eqb (byteAt4 s j 3) (bitXor (bitXor (byteAt4 s j 0) (byteAt4 s j 1)) (byteAt4 s j 2)) ≡ true) where
-      from-good : fieldsFrom s i ≡ fromData (fields (length s)) (drop j s) (after 0xAD (drop (j + 11) s))
+      from-good : fieldsFrom ed s i ≡ fromData ed (fields ed (length s)) (drop j s) (after 0xAD (drop (j + 11) s))
       unfolding fromAddress byteAt4
-      from-good = step s i ∙ rw (e, le-ltb (length (drop j s)) 11 (rw (length-drop j s) h), t, drop-drop 11 j s) refl
+      from-good = step ed s i ∙ rw (e, le-ltb (length (drop j s)) 11 (rw (length-drop j s) h), t, drop-drop 11 j s) refl
 
-      from-alone : after 0xAD (drop (j + 11) s) ≡ none → fieldsFrom s i ≡ given []
+      from-alone : after 0xAD (drop (j + 11) s) ≡ none → fieldsFrom ed s i ≡ given []
       unfolding fromData
       from-alone q = from-good ∙ rw q refl
 
       module _ (m : ℕ) (q : after 0xAD (drop (j + 11) s) ≡ some (drop m s)) where
-        from-cut : length s - m < 346 → fieldsFrom s i ≡ given []
+        from-cut : length s - m < (nibblesOf ed + 3) → fieldsFrom ed s i ≡ given []
         unfolding fromData
-        from-cut l = from-good ∙ rw (q, lt-ltb (length (drop m s)) 346 (rw (length-drop m s) l)) refl
+        from-cut l = from-good ∙ rw (q, lt-ltb (length (drop m s)) (nibblesOf ed + 3) (rw (length-drop m s) l)) refl
 
-        from-pair : 346 ≤ length s - m
-            → fieldsFrom s i ≡ behind (field (byteAt4 s j 0) (byteAt4 s j 1) (byteAt4 s j 2) (take 343 (drop m s))) (fieldsFrom s (m + 346))
+        from-pair : (nibblesOf ed + 3) ≤ length s - m
+            → fieldsFrom ed s i ≡ behind (field (byteAt4 s j 0) (byteAt4 s j 1) (byteAt4 s j 2) (take (nibblesOf ed) (drop m s))) (fieldsFrom ed s (m + (nibblesOf ed + 3)))
         unfolding fromData fieldsFrom byteAt4
-        from-pair l = from-good ∙ rw (q, le-ltb (length (drop m s)) 346 (rw (length-drop m s) l), drop-drop 346 m s) refl
+        from-pair l = from-good ∙ rw (q, le-ltb (length (drop m s)) (nibblesOf ed + 3) (rw (length-drop m s) l), drop-drop (nibblesOf ed + 3) m s) refl
 
 -- the step behind a right address
-step-data : (s : List ℕ) (i j : ℕ) → after 0x96 (drop i s) ≡ some (drop j s) → j ≡ placeAfter 0x96 s i → i < j → 11 ≤ length s - j
+step-data : (ed : Edition) (s : List ℕ) (i j : ℕ) → after (markOf ed) (drop i s) ≡ some (drop j s) → j ≡ placeAfter (markOf ed) s i → i < j → 11 ≤ length s - j
     → eqb (byteAt4 s j 3) (bitXor (bitXor (byteAt4 s j 0) (byteAt4 s j 1)) (byteAt4 s j 2)) ≡ true
-    → (o : Option (List ℕ)) → after 0xAD (drop (j + 11) s) ≡ o → Step s i
-step-data s i j e ej lt h t none q =
+    → (o : Option (List ℕ)) → after 0xAD (drop (j + 11) s) ≡ o → Step ed s i
+step-data ed s i j e ej lt h t none q =
     let n : j ≡ 0 → ⊥ = λ z. omega arith in
-    let a = address-is s i j ej n h (byteAt4 s j 0) (byteAt4 s j 1) (byteAt4 s j 2) (byteAt4 s j 3) refl refl refl refl (eqb-true _ _ t) in
-    let d = no-data s (j + 11) 0 (missing 0xAD s (j + 11) q) refl in
-    end (pair-cut s i _ a (λ z. omega arith) _ d (noPair 0) refl refl) (from-alone s i j e h t q)
-step-data s i j e ej lt h t (some r) q =
+    let a = address-is ed s i j ej n h (byteAt4 s j 0) (byteAt4 s j 1) (byteAt4 s j 2) (byteAt4 s j 3) refl refl refl refl (eqb-true _ _ t) in
+    let d = no-data ed s (j + 11) 0 (missing 0xAD s (j + 11) q) refl in
+    end (pair-cut ed s i _ a (λ z. omega arith) _ d (noPair 0) refl refl) (from-alone ed s i j e h t q)
+step-data ed s i j e ej lt h t (some r) q =
     let n : j ≡ 0 → ⊥ = λ z. omega arith in
-    let a = address-is s i j ej n h (byteAt4 s j 0) (byteAt4 s j 1) (byteAt4 s j 2) (byteAt4 s j 3) refl refl refl refl (eqb-true _ _ t) in
+    let a = address-is ed s i j ej n h (byteAt4 s j 0) (byteAt4 s j 1) (byteAt4 s j 2) (byteAt4 s j 3) refl refl refl refl (eqb-true _ _ t) in
     let f = found 0xAD s (j + 11) r (omega arith) q in
     let m : ℕ = f .0 in
     let g : m ≡ 0 → ⊥ = λ z. omega (arith, f .2) in
     let w : after 0xAD (drop (j + 11) s) ≡ some (drop m s) = q ∙ ap some (f .4) in
-    by-lt (length s - m) 346
-    (λ l. end (pair-cut s i _ a (λ z. omega arith) _ (data-cut s (j + 11) m (f .1) g l) (noPair 0) refl refl) (from-cut s i j e h t m w l))
+    by-lt (length s - m) (nibblesOf ed + 3)
+    (λ l. end (pair-cut ed s i _ a (λ z. omega arith) _ (data-cut ed s (j + 11) m (f .1) g (nibblesOf ed) refl l) (noPair 0) refl refl) (from-cut ed s i j e h t m w l))
     (λ l. more (byteAt4 s j 0) (byteAt4 s j 1) (byteAt4 s j 2) m
-    (pair-is s i _ a (λ z. omega arith) _ (data-is s (j + 11) m (f .1) g l) (λ z. omega arith))
-    (omega (arith, f .2)) (omega (arith, f .3)) (from-pair s i j e h t m w l))
+    (pair-is ed s i _ a (λ z. omega arith) _ (data-is ed s (j + 11) m (f .1) g (nibblesOf ed) refl l) (λ z. omega arith))
+    (omega (arith, f .2)) (omega (arith, f .3)) (from-pair ed s i j e h t m w l))
 
-pub step-of : (s : List ℕ) (i : ℕ) → Step s i
-step-of s i = go (after 0x96 (drop i s)) refl
+pub step-of : (ed : Edition) (s : List ℕ) (i : ℕ) → Step ed s i
+step-of ed s i = go (after (markOf ed) (drop i s)) refl
   where
-    go : (o : Option (List ℕ)) → after 0x96 (drop i s) ≡ o → Step s i
-    go none e = end (pair-none s i _ (no-mark s i 0 (missing 0x96 s i e) (noAddress 0) refl refl) (noPair 0) refl refl) (from-none s i e)
+    go : (o : Option (List ℕ)) → after (markOf ed) (drop i s) ≡ o → Step ed s i
+    go none e = end (pair-none ed s i _ (no-mark ed s i 0 (missing (markOf ed) s i e) (noAddress 0) refl refl) (noPair 0) refl refl) (from-none ed s i e)
     go (some r) e =
-        let f = found 0x96 s i r (omega arith) e in
+        let f = found (markOf ed) s i r (mark-some ed) e in
         let j : ℕ = f .0 in
         let n : j ≡ 0 → ⊥ = λ z. omega (arith, f .2) in
-        let w : after 0x96 (drop i s) ≡ some (drop j s) = e ∙ ap some (f .4) in
+        let w : after (markOf ed) (drop i s) ≡ some (drop j s) = e ∙ ap some (f .4) in
         by-lt (length s - j) 11
-        (λ l. end (pair-none s i _ (cut-off s i j (f .1) n (noAddress 0) l refl) (noPair 0) refl refl) (from-short s i j w l))
+        (λ l. end (pair-none ed s i _ (cut-off ed s i j (f .1) n (noAddress 0) l refl) (noPair 0) refl refl) (from-short ed s i j w l))
         (λ l. by-test (eqb (byteAt4 s j 3) (bitXor (bitXor (byteAt4 s j 0) (byteAt4 s j 1)) (byteAt4 s j 2)))
-        (λ t. step-data s i j w (f .1) (f .2) l t (after 0xAD (drop (j + 11) s)) refl)
+        (λ t. step-data ed s i j w (f .1) (f .2) l t (after 0xAD (drop (j + 11) s)) refl)
         (λ t. bad
-        (pair-none s i _ (bad-sum s i j (f .1) n l (byteAt4 s j 0) (byteAt4 s j 1) (byteAt4 s j 2) (byteAt4 s j 3) refl refl refl refl (noAddress 8)
+        (pair-none ed s i _ (bad-sum ed s i j (f .1) n l (byteAt4 s j 0) (byteAt4 s j 1) (byteAt4 s j 2) (byteAt4 s j 3) refl refl refl refl (noAddress 8)
         (λ u. clash (sym t ∙ eq-eqb _ _ u)) refl) (noPair 8) refl refl)
-        (from-bad s i j w l t)))
+        (from-bad ed s i j w l t)))
 
 -- ---- what a pair says of the fields
 -- where it stands, and what follows
-pub record More (s : List ℕ) (i : ℕ) (p : FieldPair) : Type 0 where
+pub record More (ed : Edition) (s : List ℕ) (i : ℕ) (p : FieldPair) : Type 0 where
   pub behind-i : i < p .nibbles
-  pub size : p .nibbles + 346 ≡ p .next
+  pub size : p .nibbles + (nibblesOf ed + 3) ≡ p .next
   pub within : p .next ≤ length s
-  pub fields : fieldsFrom s i ≡ behind (fieldOf s p) (fieldsFrom s (p .next))
+  pub fields : fieldsFrom ed s i ≡ behind (fieldOf ed s p) (fieldsFrom ed s (p .next))
 
-module _ (s : List ℕ) (i : ℕ) (p : FieldPair) (e : p ≡ pairFrom s i) where
+module _ (ed : Edition) (s : List ℕ) (i : ℕ) (p : FieldPair) (e : p ≡ pairFrom ed s i) where
   -- 8
-  pub pair-bad : (p .refusal ≡ 0 → ⊥) → (p .refusal ≡ 8) × (fieldsFrom s i ≡ refused AddressSum)
-  pair-bad n = go (step-of s i)
+  pub pair-bad : (p .refusal ≡ 0 → ⊥) → (p .refusal ≡ 8) × (fieldsFrom ed s i ≡ refused AddressSum)
+  pair-bad n = go (step-of ed s i)
     where
-      go : Step s i → (p .refusal ≡ 8) × (fieldsFrom s i ≡ refused AddressSum)
+      go : Step ed s i → (p .refusal ≡ 8) × (fieldsFrom ed s i ≡ refused AddressSum)
       go (bad q f) = (ap (λ (x : FieldPair). x .refusal) (e ∙ sym q), f)
       go (end q f) = absurd (n (ap (λ (x : FieldPair). x .refusal) (e ∙ sym q)))
       go (more v t u j q l m f) = absurd (n (ap (λ (x : FieldPair). x .refusal) (e ∙ sym q)))
 
   -- no pair
-  pub pair-end : p .refusal ≡ 0 → p .next ≡ 0 → fieldsFrom s i ≡ given []
-  pair-end n z = go (step-of s i)
+  pub pair-end : p .refusal ≡ 0 → p .next ≡ 0 → fieldsFrom ed s i ≡ given []
+  pair-end n z = go (step-of ed s i)
     where
-      go : Step s i → fieldsFrom s i ≡ given []
+      go : Step ed s i → fieldsFrom ed s i ≡ given []
       go (bad q f) = absurd (omega (arith, n, ap (λ (x : FieldPair). x .refusal) (e ∙ sym q)))
       go (end q f) = f
       go (more v t u j q l m f) = absurd (omega (arith, z, ap (λ (x : FieldPair). x .next) (e ∙ sym q)))
 
-  pub pair-more : (p .next ≡ 0 → ⊥) → More s i p
-  pair-more n = go (step-of s i)
+  pub pair-more : (p .next ≡ 0 → ⊥) → More ed s i p
+  pair-more n = go (step-of ed s i)
     where
-      go : Step s i → More s i p
+      go : Step ed s i → More ed s i p
       go (bad q f) = absurd (n (ap (λ (x : FieldPair). x .next) (e ∙ sym q)))
       go (end q f) = absurd (n (ap (λ (x : FieldPair). x .next) (e ∙ sym q)))
       go (more v t u j q l m f) =
-          let w : p ≡ record { refusal = 0; volume = v; track = t; sector = u; nibbles = j; next = j + 346 } = e ∙ sym q in
-          subst (More s i) (sym w) (record { behind-i = l; size = refl; within = m; fields = f })
+          let w : p ≡ record { refusal = 0; volume = v; track = t; sector = u; nibbles = j; next = j + (nibblesOf ed + 3) } = e ∙ sym q in
+          subst (More ed s i) (sym w) (record { behind-i = l; size = refl; within = m; fields = f })
 
   -- its nibbles are in the stream
-  pub pair-fits : (p .next ≡ 0 → ⊥) → p .nibbles + 346 ≤ length s
+  pub pair-fits : (p .next ≡ 0 → ⊥) → p .nibbles + (nibblesOf ed + 3) ≤ length s
   pair-fits n = let m = pair-more n in omega (arith, m .size, m .within)
 
   -- the scan goes forward
@@ -197,38 +200,38 @@ module _ (s : List ℕ) (i : ℕ) (p : FieldPair) (e : p ≡ pairFrom s i) where
 
 -- ---- runs
 -- one pair more
-pub run-more : (s : List ℕ) (e : ℕ) (p : FieldPair) → p ≡ pairFrom s e → (p .next ≡ 0 → ⊥) → (xs : List Field) (i : ℕ) → Run s i e xs → Run s i (p .next) (xs ++ (fieldOf s p ∷ []))
-run-more s e p q n [] i r =
-    let w : pairFrom s i ≡ p = ap (pairFrom s) r ∙ sym q in
-    (rw w (omega arith), ap (fieldOf s) w, ap (λ (x : FieldPair). x .next) w)
-run-more s e p q n (x ∷ xs) i r = (r .0, r .1, run-more s e p q n xs (pairFrom s i .next) (r .2))
+pub run-more : (ed : Edition) (s : List ℕ) (e : ℕ) (p : FieldPair) → p ≡ pairFrom ed s e → (p .next ≡ 0 → ⊥) → (xs : List Field) (i : ℕ) → Run ed s i e xs → Run ed s i (p .next) (xs ++ (fieldOf ed s p ∷ []))
+run-more ed s e p q n [] i r =
+    let w : pairFrom ed s i ≡ p = ap (pairFrom ed s) r ∙ sym q in
+    (rw w (omega arith), ap (fieldOf ed s) w, ap (λ (x : FieldPair). x .next) w)
+run-more ed s e p q n (x ∷ xs) i r = (r .0, r .1, run-more ed s e p q n xs (pairFrom ed s i .next) (r .2))
 
 -- what a run leaves
-pub run-from : (s : List ℕ) (e : ℕ) (xs : List Field) (i : ℕ) → Run s i e xs → fieldsFrom s i ≡ (fieldsFrom s e >>= λ fs. given (xs ++ fs))
-run-from s e [] i r = rw r (go (fieldsFrom s e))
+pub run-from : (ed : Edition) (s : List ℕ) (e : ℕ) (xs : List Field) (i : ℕ) → Run ed s i e xs → fieldsFrom ed s i ≡ (fieldsFrom ed s e >>= λ fs. given (xs ++ fs))
+run-from ed s e [] i r = rw r (go (fieldsFrom ed s e))
   where
     go : (o : Outcome (List Field)) → o ≡ (o >>= λ fs. given fs)
     go (refused q) = refl
     go (given fs) = refl
-run-from s e (x ∷ xs) i r =
-    let m = pair-more s i (pairFrom s i) refl (λ z. omega (arith, r .0)) in
-    m .fields ∙ rw (r .1, run-from s e xs (pairFrom s i .next) (r .2)) (go (fieldsFrom s e))
+run-from ed s e (x ∷ xs) i r =
+    let m = pair-more ed s i (pairFrom ed s i) refl (λ z. omega (arith, r .0)) in
+    m .fields ∙ rw (r .1, run-from ed s e xs (pairFrom ed s i .next) (r .2)) (go (fieldsFrom ed s e))
   where
     go : (o : Outcome (List Field)) → ((o >>= λ fs. given (xs ++ fs)) >>= λ fs. given (x ∷ fs)) ≡ (o >>= λ fs. given (x ∷ (xs ++ fs)))
     go (refused q) = refl
     go (given fs) = refl
 
 -- a run that ends the stream is all of its fields, ..
-pub run-all : (s : List ℕ) (e : ℕ) (xs : List Field) → Run s 0 e xs → fieldsFrom s e ≡ given [] → fields (length s) s ≡ given xs
-run-all s e xs r q = sym (from-start s) ∙ run-from s e xs 0 r ∙ rw (q, append-nil xs) refl
+pub run-all : (ed : Edition) (s : List ℕ) (e : ℕ) (xs : List Field) → Run ed s 0 e xs → fieldsFrom ed s e ≡ given [] → fields ed (length s) s ≡ given xs
+run-all ed s e xs r q = sym (from-start ed s) ∙ run-from ed s e xs 0 r ∙ rw (q, append-nil xs) refl
 
 -- .. and one that meets a wrong sum is refused
-pub run-bad : (s : List ℕ) (e : ℕ) (xs : List Field) → Run s 0 e xs → fieldsFrom s e ≡ refused AddressSum → fields (length s) s ≡ refused AddressSum
-run-bad s e xs r q = sym (from-start s) ∙ run-from s e xs 0 r ∙ rw q refl
+pub run-bad : (ed : Edition) (s : List ℕ) (e : ℕ) (xs : List Field) → Run ed s 0 e xs → fieldsFrom ed s e ≡ refused AddressSum → fields ed (length s) s ≡ refused AddressSum
+run-bad ed s e xs r q = sym (from-start ed s) ∙ run-from ed s e xs 0 r ∙ rw q refl
 
 -- a run goes forward
-pub run-le : (s : List ℕ) (e : ℕ) (xs : List Field) (i : ℕ) → Run s i e xs → i ≤ e
-run-le s e [] i r = omega arith
-run-le s e (x ∷ xs) i r =
-    let m = pair-more s i (pairFrom s i) refl (λ z. omega (arith, r .0)) in
-    omega (arith, m .behind-i, m .size, run-le s e xs (pairFrom s i .next) (r .2))
+pub run-le : (ed : Edition) (s : List ℕ) (e : ℕ) (xs : List Field) (i : ℕ) → Run ed s i e xs → i ≤ e
+run-le ed s e [] i r = omega arith
+run-le ed s e (x ∷ xs) i r =
+    let m = pair-more ed s i (pairFrom ed s i) refl (λ z. omega (arith, r .0)) in
+    omega (arith, m .behind-i, m .size, run-le ed s e xs (pairFrom ed s i .next) (r .2))

@@ -13,20 +13,20 @@ use borrow.Author.Tests.{eq-eqb, ne-eqb, lt-ltb, le-ltb, eqb-true, ltb-false}
 use lib.Dec.{eqb, ltb, eqb→eq}
 use lib.ListN.{length, getD, set, take, drop, replicate, length-set, length-replicate, getD-replicate}
 use lib.Seq.{getD-set-same, getD-set-other}
-use Rattle.lists.specs.Fill.{tab, below, cats, put, placed}
+use Rattle.lists.specs.Fill.{tab, below, cats, put}
 use Rattle.lists.specs.Select.{all, any}
 use Rattle.lists.proofs.Blocks.{Blocks, blocks-none, blocks-step, blocks-done, length-cats}
 use Rattle.lists.proofs.Chunks.{chunk-cats}
-use Rattle.lists.proofs.Put.{put-is, put-front, placed-put}
+use Rattle.lists.proofs.Put.{put-is, put-front}
 use Rattle.lists.proofs.Split.{by-lt, by-test, both-true, clash}
 use Rattle.lists.proofs.Table.{test-at}
 use Rattle.outcome.specs.declared.Handed.{Handed}
 use Rattle.outcome.specs.declared.Refusal.the-variants.{AddressSum, DataSum, Absent, Stranger}
 use Rattle.outcome.specs.Outcome.{Outcome, refused, given, _>>=_, _>>_, require, each, number, refusedWith, acceptedWith, Hands}
 use Rattle.outcome.proofs.Outcome.{hands-number, hands-short, hands-over, number-0, number-then, each-refuses, each-on}
-use Rattle.nibble.specs.Nibble.{valAt, decode}
-use Rattle.nibble.proofs.Callers.{length-decode}
-use Rattle.stream.specs.Stream.{Field, fields, sameKey, firsts, sumsOk, isStranger, firstVolume, interleave, bytesAt, image}
+use Rattle.stream.specs.declared.Edition.{Edition}
+use Rattle.stream.specs.Editions.{nibblesOf, perTrack, dosSector, sumOf, dataOf}
+use Rattle.stream.specs.Stream.{Field, fields, sameKey, firsts, sumsOk, isStranger, firstVolume, bytesAt, image}
 use Rattle.stream.specs.Scan.{pairFrom}
 use Rattle.stream.specs.Steps.{fieldsFrom, fieldOf, Run, sectorAt, firstPlace, strange, numberOf, sumCounts, heldAt, Complete, Within, Decides, Meets, Surveys}
 use Rattle.stream.specs.Steps
@@ -35,55 +35,54 @@ use Rattle.stream.specs.declared.Places.{Places}
 use Rattle.stream.proofs.Fields.{pair-bad, pair-end, pair-more, pair-fits, pair-less, run-more, run-from, run-all, run-bad, from-start}
 use Rattle.stream.proofs.Firsts.{or-none, any-met, any-none, any-agree, any-place, bytesAt-is, sector-none, sector-some, first-turn, sums-turn}
 use Rattle.stream.proofs.Keyed.{place-within}
-use Rattle.stream.proofs.Unrolls.{interleave-lt, wayBack, each-joins}
+use Rattle.stream.proofs.Sizes.{length-data}
+use Rattle.stream.proofs.Numbers.{per-some, per-small, number-track, number-sector, number-whole, number-below, dos-lt, same-sector}
+use Rattle.stream.proofs.Unrolls.{each-joins}
 
 -- ---- address_refusal
-pub record Ahead (s : List ℕ) (i k : ℕ) : Type 0 where
-  pub same : number (fieldsFrom s i) ≡ number (fieldsFrom s k)
+pub record Ahead (ed : Edition) (s : List ℕ) (i k : ℕ) : Type 0 where
+  pub same : number (fieldsFrom ed s i) ≡ number (fieldsFrom ed s k)
 
-pub ahead-start : (s : List ℕ) (i : ℕ) → Ahead s i i
-ahead-start s i = record { same = refl }
+pub ahead-start : (ed : Edition) (s : List ℕ) (i : ℕ) → Ahead ed s i i
+ahead-start ed s i = record { same = refl }
 
-module _ (s : List ℕ) (i k : ℕ) (w : Ahead s i k) (p : FieldPair) (e : p ≡ pairFrom s k) where
-  pub ahead-bad : (p .refusal ≡ 0 → ⊥) → 8 ≡ number (fieldsFrom s i)
-  ahead-bad n = sym (w .same ∙ rw (pair-bad s k p e n .1) refl)
+module _ (ed : Edition) (s : List ℕ) (i k : ℕ) (w : Ahead ed s i k) (p : FieldPair) (e : p ≡ pairFrom ed s k) where
+  pub ahead-bad : (p .refusal ≡ 0 → ⊥) → 8 ≡ number (fieldsFrom ed s i)
+  ahead-bad n = sym (w .same ∙ rw (pair-bad ed s k p e n .1) refl)
 
-  pub ahead-end : p .refusal ≡ 0 → p .next ≡ 0 → 0 ≡ number (fieldsFrom s i)
-  ahead-end h z = sym (w .same ∙ rw (pair-end s k p e h z) refl)
+  pub ahead-end : p .refusal ≡ 0 → p .next ≡ 0 → 0 ≡ number (fieldsFrom ed s i)
+  ahead-end h z = sym (w .same ∙ rw (pair-end ed s k p e h z) refl)
 
-  pub ahead-turn : (p .next ≡ 0 → ⊥) → Ahead s i (p .next)
+  pub ahead-turn : (p .next ≡ 0 → ⊥) → Ahead ed s i (p .next)
   ahead-turn n =
-      let m = pair-more s k p e n in
-      record { same = w .same ∙ rw (m .fields) (number-then (fieldsFrom s (p .next)) (λ fs. fieldOf s p ∷ fs)) }
+      let m = pair-more ed s k p e n in
+      record { same = w .same ∙ rw (m .fields) (number-then (fieldsFrom ed s (p .next)) (λ fs. fieldOf ed s p ∷ fs)) }
 
 pub ruleset ahead = (ahead-start, ahead-bad, ahead-end, ahead-turn, pair-less, needs)
 
 -- ---- is_stranger
-module _ (v : ℕ) (p : FieldPair) where
-  pub strange-volume : (p .volume ≡ v → ⊥) → true ≡ strange v p
+module _ (ed : Edition) (v : ℕ) (p : FieldPair) where
+  pub strange-volume : (p .volume ≡ v → ⊥) → true ≡ strange ed v p
   strange-volume n = rw (ne-eqb (p .volume) v n) refl
 
-  pub strange-track : p .volume ≡ v → 34 < p .track → true ≡ strange v p
+  pub strange-track : p .volume ≡ v → 34 < p .track → true ≡ strange ed v p
   strange-track e h = rw (eq-eqb (p .volume) v e, lt-ltb 34 (p .track) h) refl
 
-  pub strange-sector : p .volume ≡ v → p .track ≤ 34 → ltb 15 (p .sector) ≡ strange v p
-  strange-sector e h = rw (eq-eqb (p .volume) v e, le-ltb 34 (p .track) h) refl
+  pub strange-sector : (n : ℕ) → n ≡ perTrack ed → p .volume ≡ v → p .track ≤ 34 → ltb (n - 1) (p .sector) ≡ strange ed v p
+  strange-sector n k e h = rw (← k, eq-eqb (p .volume) v e, le-ltb 34 (p .track) h) refl
 
 pub ruleset strangers = (strange-volume, strange-track, strange-sector, needs)
 
 -- ---- sum_counts
-module _ (s : List ℕ) (p : FieldPair) (old : ℕ) (good : Bool) where
-  pub counts-bad : good ≡ false → false ≡ sumCounts s p old good
+module _ (ed : Edition) (s : List ℕ) (p : FieldPair) (old : ℕ) (good : Bool) where
+  pub counts-bad : good ≡ false → false ≡ sumCounts ed s p old good
   counts-bad g = rw g refl
 
-  pub counts-not : good ≡ true → (old ≡ 0 → ⊥) → true ≡ sumCounts s p old good
+  pub counts-not : good ≡ true → (old ≡ 0 → ⊥) → true ≡ sumCounts ed s p old good
   counts-not g n = rw (g, ne-eqb old 0 n) refl
 
-  pub counts : (r : ℕ) → good ≡ true → old ≡ 0 → r ≡ valAt (take (p .nibbles + 343 - p .nibbles) (drop (p .nibbles) s)) 342 → eqb r 0 ≡ sumCounts s p old good
-  counts r g z q =
-      let l : p .nibbles + 343 - p .nibbles ≡ 343 = omega arith in
-      let u : r ≡ valAt (take 343 (drop (p .nibbles) s)) 342 = rw l at q in
-      rw (g, eq-eqb old 0 z, u) refl
+  pub counts : (r : ℕ) → good ≡ true → old ≡ 0 → r ≡ sumOf ed (take (nibblesOf ed) (drop (p .nibbles) s)) → eqb r 0 ≡ sumCounts ed s p old good
+  counts r g z q = rw (g, eq-eqb old 0 z, q) refl
 
 pub ruleset counted = (counts-bad, counts-not, counts, needs)
 
@@ -94,51 +93,41 @@ pub record Having (at : List ℕ) (k : ℕ) : Type 0 where
 pub having-start : (at : List ℕ) → Having at 0
 having-start at = record { have = λ j h z. omega arith }
 
-module _ (at : List ℕ) (k : ℕ) where
+module _ (ed : Edition) (at : List ℕ) (k : ℕ) where
   pub having-turn : Having at k → (getD at k 0 ≡ 0 → ⊥) → Having at (k + 1)
   having-turn w n = record { have = λ j h. by-lt j k (λ l. w .have j l) (λ l. let e : j ≡ k = omega arith in rw e n) }
 
-  pub having-not : k < 560 → getD at k 0 ≡ 0 → Complete at false
-  having-not h z = Steps.no refl k h z
+  pub having-not : (n : ℕ) → n ≡ perTrack ed → k < 35 * n → getD at k 0 ≡ 0 → Complete ed at false
+  having-not n e h z = Steps.no refl k (rw e at h) z
 
-  pub having-all : Having at k → 560 ≤ k → Complete at true
-  having-all w h = Steps.yes refl (λ j l. w .have j (omega arith))
+  pub having-all : (n : ℕ) → n ≡ perTrack ed → Having at k → 35 * n ≤ k → Complete ed at true
+  having-all n e w h = Steps.yes refl (λ j l. w .have j (omega arith))
 
 pub ruleset having = (having-start, having-turn, having-not, having-all, needs)
 
 -- ---- places_of and stranger_met
-module _ (good : Bool) (at : List ℕ) where
-  pub decide-sum : good ≡ false → Decides good at (record { refusal = 9; at = at })
+module _ (ed : Edition) (good : Bool) (at : List ℕ) where
+  pub decide-sum : good ≡ false → Decides ed good at (record { refusal = 9; at = at })
   decide-sum g = Steps.sum g refl
 
-  pub decide-absent : (b : Bool) → good ≡ true → Complete at b → b ≡ false → Decides good at (record { refusal = 10; at = at })
+  pub decide-absent : (b : Bool) → good ≡ true → Complete ed at b → b ≡ false → Decides ed good at (record { refusal = 10; at = at })
   decide-absent b g (Steps.yes t h) f = absurd (clash (sym f ∙ t))
   decide-absent b g (Steps.no t k h z) f = Steps.absent g refl k h z
 
-  pub decide-all : (b : Bool) → good ≡ true → Complete at b → b ≡ true → Decides good at (record { refusal = 0; at = at })
+  pub decide-all : (b : Bool) → good ≡ true → Complete ed at b → b ≡ true → Decides ed good at (record { refusal = 0; at = at })
   decide-all b g (Steps.yes t h) f = Steps.all g refl h
   decide-all b g (Steps.no t k h z) f = absurd (clash (sym t ∙ f))
 
-module _ (s : List ℕ) (i n : ℕ) (at : List ℕ) (e : n ≡ number (fieldsFrom s i)) where
-  pub meet-stranger : n ≡ 0 → Meets s i (record { refusal = 11; at = at })
+module _ (ed : Edition) (s : List ℕ) (i n : ℕ) (at : List ℕ) (e : n ≡ number (fieldsFrom ed s i)) where
+  pub meet-stranger : n ≡ 0 → Meets ed s i (record { refusal = 11; at = at })
   meet-stranger z = Steps.stranger refl (sym e ∙ z)
 
-  pub meet-address : (n ≡ 0 → ⊥) → Meets s i (record { refusal = n; at = at })
+  pub meet-address : (n ≡ 0 → ⊥) → Meets ed s i (record { refusal = n; at = at })
   meet-address z = Steps.address e z
 
 pub ruleset decided = (decide-sum, decide-absent, decide-all, meet-stranger, meet-address, needs)
 
 -- ---- survey
--- the way back from a DOS sector to its address sector
-back : (p : ℕ) → p < 16 → wayBack (interleave p) ≡ p
-unfolding interleave
-back p h = eqb→eq _ p (test-at (λ k x. eqb (wayBack (interleave k)) k) (replicate 16 0) tt p h)
-
-same-sector : (p q : ℕ) → p < 16 → q < 16 → eqb p q ≡ eqb (interleave q) (interleave p)
-same-sector p q hp hq =
-    by-test (eqb p q) (λ t. t ∙ sym (eq-eqb (interleave q) (interleave p) (ap interleave (sym (eqb-true p q t)))))
-    (λ t. t ∙ sym (ne-eqb (interleave q) (interleave p) (λ u. clash (sym t ∙ eq-eqb p q (sym (back p hp) ∙ ap wayBack (sym u) ∙ back q hq)))))
-
 eqb-swap : (a b : ℕ) → eqb a b ≡ eqb b a
 eqb-swap a b = by-test (eqb a b) (λ t. t ∙ sym (eq-eqb b a (sym (eqb-true a b t)))) (λ t. t ∙ sym (ne-eqb b a (λ u. clash (sym t ∙ eq-eqb a b (sym u)))))
 
@@ -147,39 +136,39 @@ not-false true e = refl
 not-false false e = absurd (clash (sym e))
 
 -- what is no stranger is of the volume and on the disk
-known : (v a t p : ℕ) → (not (eqb a v) || (ltb 34 t || ltb 15 p)) ≡ false → (a ≡ v) × (t ≤ 34) × (p ≤ 15)
-known v a t p e =
+known : (ed : Edition) (v a t p : ℕ) → (not (eqb a v) || (ltb 34 t || ltb (perTrack ed - 1) p)) ≡ false → (a ≡ v) × (t ≤ 34) × (p < perTrack ed)
+known ed v a t p e =
     let b = or-none (not (eqb a v)) _ e in
-    let c = or-none (ltb 34 t) (ltb 15 p) (b .1) in
-    (eqb-true a v (not-false (eqb a v) (b .0)), ltb-false 34 t (c .0), ltb-false 15 p (c .1))
+    let c = or-none (ltb 34 t) (ltb (perTrack ed - 1) p) (b .1) in
+    (eqb-true a v (not-false (eqb a v) (b .0)), ltb-false 34 t (c .0), omega (arith, per-some ed, ltb-false (perTrack ed - 1) p (c .1)))
 
 -- of two such fields: the same key is the same track and DOS sector
-key-agrees : (v : ℕ) (f g : Field) → isStranger v f ≡ false → isStranger v g ≡ false
-    → sameKey f g ≡ (eqb (g .track) (f .track) && eqb (interleave (g .sector)) (interleave (f .sector)))
-key-agrees v f g e q =
-    let a = known v (f .volume) (f .track) (f .sector) e in
-    let b = known v (g .volume) (g .track) (g .sector) q in
+key-agrees : (ed : Edition) (v : ℕ) (f g : Field) → isStranger ed v f ≡ false → isStranger ed v g ≡ false
+    → sameKey f g ≡ (eqb (g .track) (f .track) && eqb (dosSector ed (g .sector)) (dosSector ed (f .sector)))
+key-agrees ed v f g e q =
+    let a = known ed v (f .volume) (f .track) (f .sector) e in
+    let b = known ed v (g .volume) (g .track) (g .sector) q in
     rw (
       eq-eqb (f .volume) (g .volume) (a .0 ∙ sym (b .0)),
       eqb-swap (f .track) (g .track),
-      same-sector (f .sector) (g .sector) (omega (arith, a .2)) (omega (arith, b .2)),
+      same-sector ed (f .sector) (g .sector) (a .2) (b .2),
     ) refl
 
 -- the pairs up to place i are met, and none is a stranger
-pub record Surveying (s : List ℕ) (v i : ℕ) (good : Bool) (at : List ℕ) : Type 0 where
+pub record Surveying (ed : Edition) (s : List ℕ) (v i : ℕ) (good : Bool) (at : List ℕ) : Type 0 where
   pub met : List Field
-  pub run : Run s 0 i met
-  pub volume : v ≡ pairFrom s 0 .volume
-  pub known-all : any (isStranger v) met ≡ false
-  pub sums : good ≡ sumsOk (firsts [] met)
+  pub run : Run ed s 0 i met
+  pub volume : v ≡ pairFrom ed s 0 .volume
+  pub known-all : any (isStranger ed v) met ≡ false
+  pub sums : good ≡ sumsOk ed (firsts [] met)
   pub long : length at ≡ 560
-  pub placed-at : (k : ℕ) → k < 560 → sectorAt s (getD at k 0) ≡ bytesAt (k / 16) (k % 16) met
-  pub inside : (k : ℕ) → k < 560 → (getD at k 0 ≡ 0 → ⊥) → getD at k 0 + 346 ≤ length s
+  pub placed-at : (k : ℕ) → k < 35 * perTrack ed → sectorAt ed s (getD at k 0) ≡ bytesAt ed (k / perTrack ed) (k % perTrack ed) met
+  pub inside : (k : ℕ) → k < 35 * perTrack ed → (getD at k 0 ≡ 0 → ⊥) → getD at k 0 + (nibblesOf ed + 3) ≤ length s
 
-pub surveying-start : (s at : List ℕ) (f : FieldPair) → f ≡ pairFrom s 0 → at ≡ replicate 560 0 → Surveying s (f .volume) 0 true at
+pub surveying-start : (ed : Edition) (s at : List ℕ) (f : FieldPair) → f ≡ pairFrom ed s 0 → at ≡ replicate 560 0 → Surveying ed s (f .volume) 0 true at
 unfolding bytesAt firsts all any
-surveying-start s at f e z =
-    let n : (k : ℕ) → k < 560 → getD at k 0 ≡ 0 = λ k h. rw z (getD-replicate {A = ℕ} 560 k 0 0 h) in
+surveying-start ed s at f e z =
+    let n : (k : ℕ) → k < 35 * perTrack ed → getD at k 0 ≡ 0 = λ k h. rw z (getD-replicate {A = ℕ} 560 k 0 0 (omega (arith, per-small ed))) in
     record {
       met = [];
       run = refl;
@@ -187,121 +176,124 @@ surveying-start s at f e z =
       known-all = refl;
       sums = refl;
       long = rw z (length-replicate {A = ℕ} 560 0);
-      placed-at = λ k h. sector-none s (getD at k 0) (eq-eqb _ 0 (n k h));
+      placed-at = λ k h. sector-none ed s (getD at k 0) (eq-eqb _ 0 (n k h));
       inside = λ k h u. absurd (u (n k h));
     }
 
 -- the volume of all fields is that of the first pair
-first-volume : (s : List ℕ) (e : ℕ) (xs ys : List Field) (f : Field) → Run s 0 e xs → fieldOf s (pairFrom s e) ≡ f
-    → firstVolume (xs ++ (f ∷ ys)) ≡ pairFrom s 0 .volume
-first-volume s e [] ys f r q = sym (ap (λ (x : Field). x .volume) q) ∙ rw r refl
-first-volume s e (x ∷ xs) ys f r q = sym (ap (λ (x : Field). x .volume) (r .1))
+first-volume : (ed : Edition) (s : List ℕ) (e : ℕ) (xs ys : List Field) (f : Field) → Run ed s 0 e xs → fieldOf ed s (pairFrom ed s e) ≡ f
+    → firstVolume (xs ++ (f ∷ ys)) ≡ pairFrom ed s 0 .volume
+first-volume ed s e [] ys f r q = sym (ap (λ (x : Field). x .volume) q) ∙ rw r refl
+first-volume ed s e (x ∷ xs) ys f r q = sym (ap (λ (x : Field). x .volume) (r .1))
 
 -- a field that is put at the place `old` of its sector, or is not put
 first-old : (a m : ℕ) → firstPlace a false m ≡ a
 first-old a m = by-test (eqb a 0) (λ t. rw t (sym (eqb-true a 0 t))) (λ t. rw t refl)
 
-module _ (s : List ℕ) (v i : ℕ) (good : Bool) (at : List ℕ) (w : Surveying s v i good at) (p : FieldPair) (e : p ≡ pairFrom s i) where
-  pub survey-bad : (p .refusal ≡ 0 → ⊥) → Surveys s (record { refusal = 8; at = at })
+module _ (ed : Edition) (s : List ℕ) (v i : ℕ) (good : Bool) (at : List ℕ) (w : Surveying ed s v i good at) (p : FieldPair) (e : p ≡ pairFrom ed s i) where
+  pub survey-bad : (p .refusal ≡ 0 → ⊥) → Surveys ed s (record { refusal = 8; at = at })
   unfolding image
   survey-bad h =
-      let o : image s ≡ refused AddressSum = rw (run-bad s i (w .met) (w .run) (pair-bad s i p e h .1)) refl in
+      let o : image ed s ≡ refused AddressSum = rw (run-bad ed s i (w .met) (w .run) (pair-bad ed s i p e h .1)) refl in
       record { number-is = rw o refl; image-is = λ z. absurd (omega arith); fits = λ z. absurd (omega arith) }
 
-  module _ (n : p .next ≡ 0 → ⊥) (b : Bool) (q : b ≡ strange v p) where
+  module _ (n : p .next ≡ 0 → ⊥) (b : Bool) (q : b ≡ strange ed v p) where
     -- all fields, where the rest of them is given
-    met-fields : (rest : List Field) → fieldsFrom s (p .next) ≡ given rest → fields (length s) s ≡ given (w .met ++ (fieldOf s p ∷ rest))
+    met-fields : (rest : List Field) → fieldsFrom ed s (p .next) ≡ given rest → fields ed (length s) s ≡ given (w .met ++ (fieldOf ed s p ∷ rest))
     met-fields rest g =
-        let m = pair-more s i p e n in
-        sym (from-start s) ∙ run-from s i (w .met) 0 (w .run) ∙ rw (m .fields, g) refl
+        let m = pair-more ed s i p e n in
+        sym (from-start ed s) ∙ run-from ed s i (w .met) 0 (w .run) ∙ rw (m .fields, g) refl
 
-    met-strange : (rest : List Field) → b ≡ true → fieldsFrom s (p .next) ≡ given rest → image s ≡ refused Stranger
+    met-strange : (rest : List Field) → b ≡ true → fieldsFrom ed s (p .next) ≡ given rest → image ed s ≡ refused Stranger
     unfolding image
     met-strange rest t g =
-        let f : Field = fieldOf s p in
-        let u : firstVolume (w .met ++ (f ∷ rest)) ≡ v = first-volume s i (w .met) rest f (w .run) (ap (fieldOf s) (sym e)) ∙ sym (w .volume) in
-        let h : any (isStranger (firstVolume (w .met ++ (f ∷ rest)))) (w .met ++ (f ∷ rest)) ≡ true = rw u (any-met (isStranger v) (w .met) rest f (sym q ∙ t)) in
+        let f : Field = fieldOf ed s p in
+        let u : firstVolume (w .met ++ (f ∷ rest)) ≡ v = first-volume ed s i (w .met) rest f (w .run) (ap (fieldOf ed s) (sym e)) ∙ sym (w .volume) in
+        let h : any (isStranger ed (firstVolume (w .met ++ (f ∷ rest)))) (w .met ++ (f ∷ rest)) ≡ true = rw u (any-met (isStranger ed v) (w .met) rest f (sym q ∙ t)) in
         rw (met-fields rest g, h) refl
 
     -- .. or refused
-    met-refused : (o : Outcome (List Field)) → fieldsFrom s (p .next) ≡ o → (number o ≡ 0 → ⊥) → number (image s) ≡ number o
+    met-refused : (o : Outcome (List Field)) → fieldsFrom ed s (p .next) ≡ o → (number o ≡ 0 → ⊥) → number (image ed s) ≡ number o
     unfolding image
     met-refused (given rest) g z = absurd (z refl)
     met-refused (refused r) g z =
-        let m = pair-more s i p e n in
-        let a : fields (length s) s ≡ refused r = sym (from-start s) ∙ run-from s i (w .met) 0 (w .run) ∙ rw (m .fields, g) refl in
+        let m = pair-more ed s i p e n in
+        let a : fields ed (length s) s ≡ refused r = sym (from-start ed s) ∙ run-from ed s i (w .met) 0 (w .run) ∙ rw (m .fields, g) refl in
         rw a refl
 
     -- what stands behind the pair decides between 8 and 11
-    pub survey-stranger : (r : Places) → b ≡ true → Meets s (p .next) r → Surveys s r
+    pub survey-stranger : (r : Places) → b ≡ true → Meets ed s (p .next) r → Surveys ed s r
     survey-stranger r t (Steps.stranger z y) =
-        let g = number-0 (fieldsFrom s (p .next)) y in
-        let o : image s ≡ refused Stranger = met-strange (g .0) t (g .1) in
+        let g = number-0 (fieldsFrom ed s (p .next)) y in
+        let o : image ed s ≡ refused Stranger = met-strange (g .0) t (g .1) in
         record { number-is = z ∙ rw o refl; image-is = λ k. absurd (omega arith); fits = λ k. absurd (omega arith) }
     survey-stranger r t (Steps.address z y) =
-        let o : number (image s) ≡ number (fieldsFrom s (p .next)) = met-refused (fieldsFrom s (p .next)) refl (λ k. y (z ∙ k)) in
+        let o : number (image ed s) ≡ number (fieldsFrom ed s (p .next)) = met-refused (fieldsFrom ed s (p .next)) refl (λ k. y (z ∙ k)) in
         record { number-is = z ∙ sym o; image-is = λ k. absurd (y k); fits = λ k. absurd (y k) }
 
-    module _ (t : b ≡ false) (k : ℕ) (ek : k ≡ numberOf p) where
-      pub number-lt : k < 560
-      number-lt = let a = known v (p .volume) (p .track) (p .sector) (sym q ∙ t) in omega (arith, ek, a .1, interleave-lt (p .sector) (omega (arith, a .2)))
+    module _ (t : b ≡ false) (k : ℕ) (ek : k ≡ numberOf ed p) where
+      pub number-lt : k < 35 * perTrack ed
+      number-lt = let a = known ed v (p .volume) (p .track) (p .sector) (sym q ∙ t) in rw ek (number-below ed (p .track) (dosSector ed (p .sector)) (a .1) (dos-lt ed (p .sector) (a .2)))
+
+      pub number-in : k < 560
+      number-in = omega (arith, number-lt, per-small ed)
 
       pub number-fits : Fits w64 (k * 8)
-      number-fits = record { fits = omega (arith, number-lt) }
+      number-fits = record { fits = omega (arith, number-lt, per-small ed) }
 
       -- track and DOS sector of the number
-      number-parts : (k / 16 ≡ p .track) × (k % 16 ≡ interleave (p .sector))
-      number-parts = let a = known v (p .volume) (p .track) (p .sector) (sym q ∙ t) in
-          let l = interleave-lt (p .sector) (omega (arith, a .2)) in
-          (omega (arith, ek, l), omega (arith, ek, l))
+      number-parts : (k / perTrack ed ≡ p .track) × (k % perTrack ed ≡ dosSector ed (p .sector))
+      number-parts = let a = known ed v (p .volume) (p .track) (p .sector) (sym q ∙ t) in
+          let l = dos-lt ed (p .sector) (a .2) in
+          rw ek (number-track ed (p .track) (dosSector ed (p .sector)) l, number-sector ed (p .track) (dosSector ed (p .sector)) l)
 
       -- the test for DOS sector j
       abbrev wants : ℕ → Field → Bool
-      wants j f = eqb (f .track) (j / 16) && eqb (interleave (f .sector)) (j % 16)
+      wants j f = eqb (f .track) (j / perTrack ed) && eqb (dosSector ed (f .sector)) (j % perTrack ed)
 
-      wants-this : true ≡ wants k (fieldOf s p)
-      wants-this = let a = number-parts in rw (a .0, a .1, eq-eqb (p .track) (p .track) refl, eq-eqb (interleave (p .sector)) (interleave (p .sector)) refl) refl
+      wants-this : true ≡ wants k (fieldOf ed s p)
+      wants-this = let a = number-parts in rw (a .0, a .1, eq-eqb (p .track) (p .track) refl, eq-eqb (dosSector ed (p .sector)) (dosSector ed (p .sector)) refl) refl
 
-      wants-other : (j : ℕ) → (j ≡ k → ⊥) → false ≡ wants j (fieldOf s p)
+      wants-other : (j : ℕ) → (j ≡ k → ⊥) → false ≡ wants j (fieldOf ed s p)
       wants-other j h =
-          by-test (wants j (fieldOf s p))
+          by-test (wants j (fieldOf ed s p))
           (λ u.
-          let c = both-true (eqb (p .track) (j / 16)) (eqb (interleave (p .sector)) (j % 16)) u in
-          let x : p .track ≡ j / 16 = eqb-true _ _ (c .0) in
-          let y : interleave (p .sector) ≡ j % 16 = eqb-true _ _ (c .1) in
-          absurd (h (omega (arith, ek, x, y))))
+          let c = both-true (eqb (p .track) (j / perTrack ed)) (eqb (dosSector ed (p .sector)) (j % perTrack ed)) u in
+          let x : p .track ≡ j / perTrack ed = eqb-true _ _ (c .0) in
+          let y : dosSector ed (p .sector) ≡ j % perTrack ed = eqb-true _ _ (c .1) in
+          absurd (h (sym (number-whole ed j) ∙ rw (← x, ← y) (sym ek))))
           (λ u. sym u)
 
       -- a pair of the same key came before exactly where its sector has a place
-      came-before : any (sameKey (fieldOf s p)) (w .met) ≡ not (eqb (getD at k 0) 0)
+      came-before : any (sameKey (fieldOf ed s p)) (w .met) ≡ not (eqb (getD at k 0) 0)
       came-before =
           let a = number-parts in
-          let f : Field = fieldOf s p in
-          any-agree (sameKey f) (wants k) (isStranger v) (λ g h. key-agrees v f g (sym q ∙ t) h ∙ rw (← a .0, ← a .1) refl) (w .met) (w .known-all)
-          ∙ any-place (wants k) s (getD at k 0) (w .met) (w .placed-at k number-lt ∙ bytesAt-is (k / 16) (k % 16) (w .met))
+          let f : Field = fieldOf ed s p in
+          any-agree (sameKey f) (wants k) (isStranger ed v) (λ g h. key-agrees ed v f g (sym q ∙ t) h ∙ rw (← a .0, ← a .1) refl) (w .met) (w .known-all)
+          ∙ any-place ed (wants k) s (getD at k 0) (w .met) (w .placed-at k number-lt ∙ bytesAt-is ed (k / perTrack ed) (k % perTrack ed) (w .met))
 
-      pub surveying-turn : (g : Bool) (a : ℕ) → g ≡ sumCounts s p (getD at k 0) good → a ≡ firstPlace (getD at k 0) true (p .nibbles)
-          → Surveying s v (p .next) g (set at k a)
+      pub surveying-turn : (g : Bool) (a : ℕ) → g ≡ sumCounts ed s p (getD at k 0) good → a ≡ firstPlace (getD at k 0) true (p .nibbles)
+          → Surveying ed s v (p .next) g (set at k a)
       surveying-turn g a eg ea =
-          let f : Field = fieldOf s p in
-          let m = pair-more s i p e n in
+          let f : Field = fieldOf ed s p in
+          let m = pair-more ed s i p e n in
           let nz : p .nibbles ≡ 0 → ⊥ = λ z. omega (arith, m .behind-i) in
-          let hk : k < length at = omega (arith, number-lt, w .long) in
-          let turn : (j : ℕ) → j < 560 → (c : Bool) → c ≡ wants j f → sectorAt s (firstPlace (getD at j 0) c (p .nibbles)) ≡ bytesAt (j / 16) (j % 16) (w .met ++ (f ∷ [])) =
-          λ j h c u. first-turn (wants j) s (w .met) (getD at j 0) p c u nz (w .placed-at j h ∙ bytesAt-is (j / 16) (j % 16) (w .met)) ∙ sym (bytesAt-is (j / 16) (j % 16) (w .met ++ (f ∷ []))) in
+          let hk : k < length at = omega (arith, number-lt, w .long, per-small ed) in
+          let turn : (j : ℕ) → j < 35 * perTrack ed → (c : Bool) → c ≡ wants j f → sectorAt ed s (firstPlace (getD at j 0) c (p .nibbles)) ≡ bytesAt ed (j / perTrack ed) (j % perTrack ed) (w .met ++ (f ∷ [])) =
+          λ j h c u. first-turn ed (wants j) s (w .met) (getD at j 0) p c u nz (w .placed-at j h ∙ bytesAt-is ed (j / perTrack ed) (j % perTrack ed) (w .met)) ∙ sym (bytesAt-is ed (j / perTrack ed) (j % perTrack ed) (w .met ++ (f ∷ []))) in
           record {
             met = w .met ++ (f ∷ []);
-            run = run-more s i p e n (w .met) 0 (w .run);
+            run = run-more ed s i p e n (w .met) 0 (w .run);
             volume = w .volume;
-            known-all = any-none (isStranger v) (w .met) f (w .known-all) (sym q ∙ t);
-            sums = eg ∙ rw (w .sums) (sym (sums-turn f (w .met) ∙ rw came-before refl));
+            known-all = any-none (isStranger ed v) (w .met) f (w .known-all) (sym q ∙ t);
+            sums = eg ∙ rw (w .sums) (sym (sums-turn ed f (w .met) ∙ rw came-before refl));
             long = length-set at k a ∙ w .long;
             placed-at = λ j h. by-test (eqb j k)
                 (λ u. let x : j ≡ k = eqb-true j k u in rw (x, getD-set-same at k a 0 hk, ea) (turn k number-lt true wants-this))
                 (λ u. let x : j ≡ k → ⊥ = λ y. clash (sym u ∙ eq-eqb j k y) in
-                rw (getD-set-other at k j a 0 x) (ap (sectorAt s) (sym (first-old (getD at j 0) (p .nibbles))) ∙ turn j h false (wants-other j x)));
+                rw (getD-set-other at k j a 0 x) (ap (sectorAt ed s) (sym (first-old (getD at j 0) (p .nibbles))) ∙ turn j h false (wants-other j x)));
             inside = λ j h. by-test (eqb j k)
-                (λ u. let x : j ≡ k = eqb-true j k u in rw (x, getD-set-same at k a 0 hk, ea) (place-within s (getD at k 0) (p .nibbles) true (pair-fits s i p e n) (w .inside k number-lt)))
+                (λ u. let x : j ≡ k = eqb-true j k u in rw (x, getD-set-same at k a 0 hk, ea) (place-within ed s (getD at k 0) (p .nibbles) true (pair-fits ed s i p e n) (w .inside k number-lt)))
                 (λ u. let x : j ≡ k → ⊥ = λ y. clash (sym u ∙ eq-eqb j k y) in rw (getD-set-other at k j a 0 x) (w .inside j h));
           }
 
@@ -319,119 +311,124 @@ each-absent f h (suc n) all (suc k) l e =
     (all zero (omega arith))
 
 -- a sector has 256 bytes
-pub length-held : (s at : List ℕ) (k : ℕ) → length (heldAt s at k) ≡ 256
+pub length-held : (ed : Edition) (s at : List ℕ) (k : ℕ) → length (heldAt ed s at k) ≡ 256
 unfolding heldAt
-length-held s at k = length-decode (take 343 (drop (getD at k 0) s))
+length-held ed s at k = length-data ed (take (nibblesOf ed) (drop (getD at k 0) s))
 
-pub length-image : (s at : List ℕ) → length (cats (heldAt s at) 560) ≡ 143360
-length-image s at = length-cats (heldAt s at) 256 (length-held s at) 560
+pub length-image : (ed : Edition) (s at : List ℕ) → length (cats (heldAt ed s at) (35 * perTrack ed)) ≡ (256 * (35 * perTrack ed))
+length-image ed s at = length-cats (heldAt ed s at) 256 (length-held ed s at) (35 * perTrack ed) ∙ omega arith
 
-module _ (s : List ℕ) (v i : ℕ) (good : Bool) (at : List ℕ) (w : Surveying s v i good at) (p : FieldPair) (e : p ≡ pairFrom s i)
+module _ (ed : Edition) (s : List ℕ) (v i : ℕ) (good : Bool) (at : List ℕ) (w : Surveying ed s v i good at) (p : FieldPair) (e : p ≡ pairFrom ed s i)
     (h : p .refusal ≡ 0) (z : p .next ≡ 0) where
   -- the sectors one after the other
   sectorsOf : Outcome (List ℕ)
-  sectorsOf = each (λ k. bytesAt (k / 16) (k % 16) (w .met)) (below 560) >>= λ ss. given (flatten ss)
+  sectorsOf = each (λ k. bytesAt ed (k / perTrack ed) (k % perTrack ed) (w .met)) (below (35 * perTrack ed)) >>= λ ss. given (flatten ss)
 
-  volume-known : (xs : List Field) → Run s 0 i xs → any (isStranger v) xs ≡ false → any (isStranger (firstVolume xs)) xs ≡ false
+  volume-known : (xs : List Field) → Run ed s 0 i xs → any (isStranger ed v) xs ≡ false → any (isStranger ed (firstVolume xs)) xs ≡ false
   unfolding any
   volume-known [] r k = refl
   volume-known (x ∷ xs) r k =
       let u : x .volume ≡ v = sym (ap (λ (y : Field). y .volume) (r .1)) ∙ sym (w .volume) in
-      ap (λ (n : ℕ). any (isStranger n) (x ∷ xs)) u ∙ k
+      ap (λ (n : ℕ). any (isStranger ed n) (x ∷ xs)) u ∙ k
 
-  image-end : image s ≡ cond good sectorsOf (refused DataSum)
+  image-end : image ed s ≡ cond good sectorsOf (refused DataSum)
   unfolding image sectorsOf
   image-end =
-      rw (run-all s i (w .met) (w .run) (pair-end s i p e h z), volume-known (w .met) (w .run) (w .known-all), ← w .sums) (go good)
+      rw (run-all ed s i (w .met) (w .run) (pair-end ed s i p e h z), volume-known (w .met) (w .run) (w .known-all), ← w .sums) (go good)
     where
-      go : (b : Bool) → (require b DataSum >> each (λ k. bytesAt (k / 16) (k % 16) (w .met)) (below 560) >>= λ ss. given (flatten ss))
-          ≡ cond b (each (λ k. bytesAt (k / 16) (k % 16) (w .met)) (below 560) >>= λ ss. given (flatten ss)) (refused DataSum)
+      go : (b : Bool) → (require b DataSum >> each (λ k. bytesAt ed (k / perTrack ed) (k % perTrack ed) (w .met)) (below (35 * perTrack ed)) >>= λ ss. given (flatten ss))
+          ≡ cond b (each (λ k. bytesAt ed (k / perTrack ed) (k % perTrack ed) (w .met)) (below (35 * perTrack ed)) >>= λ ss. given (flatten ss)) (refused DataSum)
       go true = refl
       go false = refl
 
   -- each sector is there or absent
-  there : (k : ℕ) → k < 560 → (bytesAt (k / 16) (k % 16) (w .met) ≡ refused Absent) ⊎ ((d : List ℕ) × (bytesAt (k / 16) (k % 16) (w .met) ≡ given d))
+  there : (k : ℕ) → k < 35 * perTrack ed → (bytesAt ed (k / perTrack ed) (k % perTrack ed) (w .met) ≡ refused Absent) ⊎ ((d : List ℕ) × (bytesAt ed (k / perTrack ed) (k % perTrack ed) (w .met) ≡ given d))
   there k l =
-      by-test (eqb (getD at k 0) 0) (λ t. inl (sym (w .placed-at k l) ∙ sector-none s (getD at k 0) t))
-      (λ t. inr (decode (take 343 (drop (getD at k 0) s)), sym (w .placed-at k l) ∙ sector-some s (getD at k 0) t))
+      by-test (eqb (getD at k 0) 0) (λ t. inl (sym (w .placed-at k l) ∙ sector-none ed s (getD at k 0) t))
+      (λ t. inr (dataOf ed (take (nibblesOf ed) (drop (getD at k 0) s)), sym (w .placed-at k l) ∙ sector-some ed s (getD at k 0) t))
 
-  absent-end : (k : ℕ) → k < 560 → getD at k 0 ≡ 0 → sectorsOf ≡ refused Absent
+  absent-end : (k : ℕ) → k < 35 * perTrack ed → getD at k 0 ≡ 0 → sectorsOf ≡ refused Absent
   unfolding sectorsOf
   absent-end k l u =
-      let a : bytesAt (k / 16) (k % 16) (w .met) ≡ refused Absent = sym (w .placed-at k l) ∙ sector-none s (getD at k 0) (eq-eqb (getD at k 0) 0 u) in
-      rw (each-absent (λ k. bytesAt (k / 16) (k % 16) (w .met)) (λ k. k) 560 there k l a) refl
+      let a : bytesAt ed (k / perTrack ed) (k % perTrack ed) (w .met) ≡ refused Absent = sym (w .placed-at k l) ∙ sector-none ed s (getD at k 0) (eq-eqb (getD at k 0) 0 u) in
+      rw (each-absent (λ k. bytesAt ed (k / perTrack ed) (k % perTrack ed) (w .met)) (λ k. k) (35 * perTrack ed) there k l a) refl
 
-  all-end : ((k : ℕ) → k < 560 → getD at k 0 ≡ 0 → ⊥) → sectorsOf ≡ given (cats (heldAt s at) 560)
+  all-end : ((k : ℕ) → k < 35 * perTrack ed → getD at k 0 ≡ 0 → ⊥) → sectorsOf ≡ given (cats (heldAt ed s at) (35 * perTrack ed))
   unfolding sectorsOf heldAt
   all-end n =
-      each-joins (λ k. bytesAt (k / 16) (k % 16) (w .met)) (λ k. k) 560 (cats (heldAt s at) 560) (length-image s at)
-      (λ k l. sym (w .placed-at k l) ∙ sector-some s (getD at k 0) (ne-eqb (getD at k 0) 0 (n k l))
-      ∙ ap given (sym (chunk-cats (heldAt s at) 256 560 (λ j i. length-held s at j) k l)))
+      each-joins (λ k. bytesAt ed (k / perTrack ed) (k % perTrack ed) (w .met)) (λ k. k) (35 * perTrack ed) (cats (heldAt ed s at) (35 * perTrack ed)) (length-image ed s at)
+      (λ k l. sym (w .placed-at k l) ∙ sector-some ed s (getD at k 0) (ne-eqb (getD at k 0) 0 (n k l))
+      ∙ ap given (sym (chunk-cats (heldAt ed s at) 256 (35 * perTrack ed) (λ j i. length-held ed s at j) k l)))
 
-  pub survey-end : (r : Places) → Decides good at r → Surveys s r
+  pub survey-end : (r : Places) → Decides ed good at r → Surveys ed s r
   survey-end r (Steps.sum g q) =
-      let o : image s ≡ refused DataSum = image-end ∙ ap (λ b. cond b sectorsOf (refused DataSum)) g in
+      let o : image ed s ≡ refused DataSum = image-end ∙ ap (λ b. cond b sectorsOf (refused DataSum)) g in
       rw q (record { number-is = rw o refl; image-is = λ k. absurd (omega arith); fits = λ k. absurd (omega arith) })
   survey-end r (Steps.absent g q k l u) =
-      let o : image s ≡ refused Absent = image-end ∙ ap (λ b. cond b sectorsOf (refused DataSum)) g ∙ absent-end k l u in
+      let o : image ed s ≡ refused Absent = image-end ∙ ap (λ b. cond b sectorsOf (refused DataSum)) g ∙ absent-end k l u in
       rw q (record { number-is = rw o refl; image-is = λ k. absurd (omega arith); fits = λ k. absurd (omega arith) })
   survey-end r (Steps.all g q n) =
-      let o : image s ≡ given (cats (heldAt s at) 560) = image-end ∙ ap (λ b. cond b sectorsOf (refused DataSum)) g ∙ all-end n in
+      let o : image ed s ≡ given (cats (heldAt ed s at) (35 * perTrack ed)) = image-end ∙ ap (λ b. cond b sectorsOf (refused DataSum)) g ∙ all-end n in
       rw q (record { number-is = rw o refl; image-is = λ k. o; fits = λ k. record { within = λ j l. w .inside j l (n j l); long = w .long } })
 
-pub ruleset surveying = (surveying-start, survey-bad, pair-fits, pair-less, survey-stranger, number-lt, number-fits, surveying-turn, survey-end, needs)
+pub ruleset surveying = (surveying-start, survey-bad, pair-fits, pair-less, survey-stranger, number-in, number-fits, surveying-turn, survey-end, needs)
 
 -- ---- put_image: k sectors are put in
-pub record Decoding (s at o₀ o : List ℕ) (k : ℕ) : Type 0 where
-  pub count : k ≤ 560
+pub record Decoding (ed : Edition) (s at o₀ o : List ℕ) (k : ℕ) : Type 0 where
+  pub count : k ≤ 35 * perTrack ed
   pub long : length o ≡ length o₀
-  pub blocks : Blocks (heldAt s at) 0 k o₀ o
+  pub blocks : Blocks (heldAt ed s at) 0 k o₀ o
 
-pub decoding-start : (s at o : List ℕ) → Decoding s at o o 0
-decoding-start s at o = record { count = omega arith; long = refl; blocks = blocks-none (heldAt s at) 0 o }
+pub decoding-start : (ed : Edition) (s at o : List ℕ) → Decoding ed s at o o 0
+decoding-start ed s at o = record { count = omega arith; long = refl; blocks = blocks-none (heldAt ed s at) 0 o }
 
-pub decoding-turn : (s at o₀ o p d : List ℕ) (k : ℕ) → Decoding s at o₀ o k → k < 560 → 143360 ≤ length o₀
-    → d ≡ decode (take (getD at k 0 + 343 - getD at k 0) (drop (getD at k 0) s)) → p ≡ placed (256 * k) d o → Decoding s at o₀ p (k + 1)
+pub decoding-turn : (ed : Edition) (s at o₀ o p : List ℕ) (k n : ℕ) → n ≡ perTrack ed → Decoding ed s at o₀ o k → k < 35 * n → 256 * (35 * perTrack ed) ≤ length o₀
+    → p ≡ put (256 * k) (dataOf ed (take (nibblesOf ed) (drop (getD at k 0) s))) o → Decoding ed s at o₀ p (k + 1)
 unfolding heldAt
-decoding-turn s at o₀ o p d k w h room e q =
-    let l : getD at k 0 + 343 - getD at k 0 ≡ 343 = omega arith in
-    let u : d ≡ heldAt s at k = rw l at e in
-    let m : length d ≡ 256 = ap length u ∙ length-held s at k in
-    let g : p ≡ put (256 * k) (heldAt s at k) o = placed-put q (omega (arith, w .long)) .is ∙ rw u refl in
-    let b : Blocks (heldAt s at) 0 (k + 1) o₀ p = blocks-step 256 (256 * k) (length-held s at) (w .blocks) g (omega arith) (omega arith) in
+decoding-turn ed s at o₀ o p k n en w h room q =
+    let b : Blocks (heldAt ed s at) 0 (k + 1) o₀ p = blocks-step 256 (256 * k) (length-held ed s at) (w .blocks) q (omega arith) (omega arith) in
     record { count = omega arith; long = b .puts .long; blocks = b }
 
-pub decoding-done : (s at o₀ o : List ℕ) (k : ℕ) → Decoding s at o₀ o k → 560 ≤ k → o ≡ put 0 (cats (heldAt s at) 560) o₀
-decoding-done s at o₀ o k w h = blocks-done 560 (w .blocks) (w .count) h
+pub decoding-room : (ed : Edition) (s at o₀ o : List ℕ) (k n : ℕ) → n ≡ perTrack ed → Decoding ed s at o₀ o k → k < 35 * n → 256 * (35 * perTrack ed) ≤ length o₀
+    → 256 * k + 256 ≤ length o
+decoding-room ed s at o₀ o k n en w h room = omega (arith, w .long)
 
-module _ (s at : List ℕ) (k : ℕ) (w : Within s at) (h : k < 560) where
-  pub decoding-fits : getD at k 0 + 343 ≤ length s
-  decoding-fits = omega (arith, w .within k h)
+pub decoding-done : (ed : Edition) (s at o₀ o : List ℕ) (k n : ℕ) → n ≡ perTrack ed → Decoding ed s at o₀ o k → 35 * n ≤ k → o ≡ put 0 (cats (heldAt ed s at) (35 * perTrack ed)) o₀
+decoding-done ed s at o₀ o k n en w h = blocks-done (35 * perTrack ed) (w .blocks) (w .count) (omega arith)
 
-  pub decoding-end : length s * 1 < 2 ^ 63 → Fits w64 (getD at k 0 + 343)
-  decoding-end g = record { fits = omega (arith, w .within k h) }
+module _ (ed : Edition) (s at : List ℕ) (k n : ℕ) (en : n ≡ perTrack ed) (w : Within ed s at) (h : k < 35 * n) where
+  pub decoding-fits : getD at k 0 + (nibblesOf ed + 3) ≤ length s
+  decoding-fits = w .within k (rw en at h)
 
   pub decoding-place : k < length at
-  decoding-place = omega (arith, w .long)
+  decoding-place = omega (arith, w .long, per-small ed)
 
-pub ruleset decoding = (decoding-start, decoding-turn, decoding-done, decoding-fits, decoding-end, decoding-place, needs)
+pub ruleset decoding = (decoding-start, decoding-turn, decoding-room, decoding-done, decoding-fits, decoding-place, needs)
 
 -- ---- the returns of denibblize
-module _ (s out : List ℕ) (f : Places) (w : Surveys s f) where
-  pub image-refused : (h : Handed) → (f .refusal ≡ 0 → ⊥) → h ≡ refusedWith (f .refusal) → Hands (image s) out out h
-  image-refused = hands-number (image s) out (f .refusal) (w .number-is)
+module _ (ed : Edition) (s out : List ℕ) (f : Places) (w : Surveys ed s f) where
+  pub image-refused : (h : Handed) → (f .refusal ≡ 0 → ⊥) → h ≡ refusedWith (f .refusal) → Hands (image ed s) out out h
+  image-refused = hands-number (image ed s) out (f .refusal) (w .number-is)
 
   module _ (z : f .refusal ≡ 0) where
-    pub image-fits : Within s (f .at)
+    pub image-fits : Within ed s (f .at)
     image-fits = w .fits z
 
-    pub image-short : (h : Handed) → length out < 143360 → h ≡ refusedWith 12 → Hands (image s) out out h
-    image-short h l e = hands-short (image s) out (cats (heldAt s (f .at)) 560) (w .image-is z) (rw (length-image s (f .at)) l) h e
+    module _ (n : ℕ) (en : n ≡ perTrack ed) where
+      pub image-short : (h : Handed) → length out < 256 * (35 * n) → h ≡ refusedWith 12 → Hands (image ed s) out out h
+      image-short h l e =
+          let k : length out < 256 * (35 * perTrack ed) = rw en at l in
+          hands-short (image ed s) out (cats (heldAt ed s (f .at)) (35 * perTrack ed)) (w .image-is z) (rw (length-image ed s (f .at)) k) h e
 
-    pub image-done : (h : Handed) (after : List ℕ) → 143360 ≤ length out → after ≡ put 0 (cats (heldAt s (f .at)) 560) out → h ≡ acceptedWith 143360
-        → Hands (image s) out after h
-    image-done h after room q e =
-        let l : length (cats (heldAt s (f .at)) 560) ≡ 143360 = length-image s (f .at) in
-        hands-over (image s) out after (cats (heldAt s (f .at)) 560) (w .image-is z) (rw l room) (put-front (put-is q (omega arith))) h (rw l e)
+      pub image-room : 256 * (35 * n) ≤ length out → 256 * (35 * perTrack ed) ≤ length out
+      image-room room = rw en at room
 
-pub ruleset imaged = (image-refused, image-fits, image-short, image-done, needs)
+      pub image-done : (h : Handed) (after : List ℕ) → 256 * (35 * n) ≤ length out → after ≡ put 0 (cats (heldAt ed s (f .at)) (35 * perTrack ed)) out
+          → h ≡ acceptedWith (256 * (35 * n)) → Hands (image ed s) out after h
+      image-done h after room q e =
+          let l : length (cats (heldAt ed s (f .at)) (35 * perTrack ed)) ≡ 256 * (35 * perTrack ed) = length-image ed s (f .at) in
+          let r : 256 * (35 * perTrack ed) ≤ length out = rw en at room in
+          let a : h ≡ acceptedWith (256 * (35 * perTrack ed)) = rw en at e in
+          hands-over (image ed s) out after (cats (heldAt ed s (f .at)) (35 * perTrack ed)) (w .image-is z) (rw l r) (put-front (put-is q (omega arith))) h (rw l a)
+
+pub ruleset imaged = (image-refused, image-fits, image-short, image-room, image-done, needs)

@@ -13,6 +13,8 @@ use lib.ListN.{length, getD, drop, length-drop, drop-of-length-le, List·getD-eq
 use lib.Seq.{drop-cons, drop-drop, drop-nil, getD-drop}
 use Rattle.lists.proofs.Split.{by-lt, by-test, both-true}
 use Rattle.nibble.specs.Nibble.{of44}
+use Rattle.stream.specs.declared.Edition.{Edition}
+use Rattle.stream.specs.Editions.{markOf, nibblesOf}
 use Rattle.stream.specs.Search.{skip}
 use Rattle.stream.specs.Stream.{after}
 use Rattle.stream.specs.Scan.{byteAt4, markAt, placeOf, placeAfter, noAddress, addressIn, addressFrom, noData, dataFrom, noPair, pairOf, pairFrom}
@@ -137,23 +139,23 @@ byte-at s j k a b r p q e = e ∙ rw (p, q, getD-drop j s (2 * k) 0, getD-drop j
 pub ruleset bytes = (byte-at, needs)
 
 -- ---- the returns of find_and_parse_address_field
-module _ (s : List ℕ) (i j : ℕ) (e : j ≡ placeAfter 0x96 s i) where
-  pub no-mark : (r : AddressField) → j ≡ 0 → r ≡ noAddress 0 → r ≡ addressFrom s i
+module _ (ed : Edition) (s : List ℕ) (i j : ℕ) (e : j ≡ placeAfter (markOf ed) s i) where
+  pub no-mark : (r : AddressField) → j ≡ 0 → r ≡ noAddress 0 → r ≡ addressFrom ed s i
   unfolding addressFrom
   no-mark r z q = q ∙ rw (← e, eq-eqb j 0 z) refl
 
   module _ (n : j ≡ 0 → ⊥) where
-    pub cut-off : (r : AddressField) → length s - j < 11 → r ≡ noAddress 0 → r ≡ addressFrom s i
+    pub cut-off : (r : AddressField) → length s - j < 11 → r ≡ noAddress 0 → r ≡ addressFrom ed s i
     unfolding addressFrom addressIn
     cut-off r h q = q ∙ rw (← e, ne-eqb j 0 n, lt-ltb (length (drop j s)) 11 (rw (length-drop j s) h)) refl
 
     module _ (h : 11 ≤ length s - j) (v t p w : ℕ) (ev : v ≡ byteAt4 s j 0) (et : t ≡ byteAt4 s j 1) (ep : p ≡ byteAt4 s j 2) (ew : w ≡ byteAt4 s j 3) where
-      pub bad-sum : (r : AddressField) → (w ≡ bitXor (bitXor v t) p → ⊥) → r ≡ noAddress 8 → r ≡ addressFrom s i
+      pub bad-sum : (r : AddressField) → (w ≡ bitXor (bitXor v t) p → ⊥) → r ≡ noAddress 8 → r ≡ addressFrom ed s i
       unfolding addressFrom addressIn byteAt4
       bad-sum r u q =
           q ∙ rw (← e, ne-eqb j 0 n, le-ltb (length (drop j s)) 11 (rw (length-drop j s) h), ← ev, ← et, ← ep, ← ew, ne-eqb w (bitXor (bitXor v t) p) u) refl
 
-      pub address-is : w ≡ bitXor (bitXor v t) p → record { refusal = 0; volume = v; track = t; sector = p; next = j + 11 } ≡ addressFrom s i
+      pub address-is : w ≡ bitXor (bitXor v t) p → record { refusal = 0; volume = v; track = t; sector = p; next = j + 11 } ≡ addressFrom ed s i
       unfolding addressFrom addressIn byteAt4
       address-is u =
           rw (← e, ne-eqb j 0 n, le-ltb (length (drop j s)) 11 (rw (length-drop j s) h), ← ev, ← et, ← ep, ← ew, eq-eqb w (bitXor (bitXor v t) p) u) refl
@@ -161,35 +163,35 @@ module _ (s : List ℕ) (i j : ℕ) (e : j ≡ placeAfter 0x96 s i) where
 pub ruleset addressed = (after-le, no-mark, cut-off, bad-sum, address-is, needs)
 
 -- ---- the returns of find_and_parse_data_field
-module _ (s : List ℕ) (i j : ℕ) (e : j ≡ placeAfter 0xAD s i) where
-  pub no-data : j ≡ 0 → noData ≡ dataFrom s i
+module _ (ed : Edition) (s : List ℕ) (i j : ℕ) (e : j ≡ placeAfter 0xAD s i) where
+  pub no-data : j ≡ 0 → noData ≡ dataFrom ed s i
   unfolding dataFrom
   no-data z = rw (← e, eq-eqb j 0 z) refl
 
   module _ (n : j ≡ 0 → ⊥) where
-    pub data-cut : length s - j < 346 → noData ≡ dataFrom s i
+    pub data-cut : (m : ℕ) → m ≡ nibblesOf ed → length s - j < m + 3 → noData ≡ dataFrom ed s i
     unfolding dataFrom
-    data-cut h = rw (← e, ne-eqb j 0 n, lt-ltb (length (drop j s)) 346 (rw (length-drop j s) h)) refl
+    data-cut m k h = rw (← k, ← e, ne-eqb j 0 n, lt-ltb (length (drop j s)) (m + 3) (rw (length-drop j s) h)) refl
 
-    pub data-is : 346 ≤ length s - j → record { nibbles = j; next = j + 346 } ≡ dataFrom s i
+    pub data-is : (m : ℕ) → m ≡ nibblesOf ed → m + 3 ≤ length s - j → record { nibbles = j; next = j + (m + 3) } ≡ dataFrom ed s i
     unfolding dataFrom
-    data-is h = rw (← e, ne-eqb j 0 n, le-ltb (length (drop j s)) 346 (rw (length-drop j s) h)) refl
+    data-is m k h = rw (← k, ← e, ne-eqb j 0 n, le-ltb (length (drop j s)) (m + 3) (rw (length-drop j s) h)) refl
 
 pub ruleset fielded = (after-le, no-data, data-cut, data-is, needs)
 
 -- ---- the returns of parse_nib_sector
-module _ (s : List ℕ) (i : ℕ) (a : AddressField) (e : a ≡ addressFrom s i) where
-  pub pair-none : (r : FieldPair) → a .next ≡ 0 → r ≡ noPair (a .refusal) → r ≡ pairFrom s i
+module _ (ed : Edition) (s : List ℕ) (i : ℕ) (a : AddressField) (e : a ≡ addressFrom ed s i) where
+  pub pair-none : (r : FieldPair) → a .next ≡ 0 → r ≡ noPair (a .refusal) → r ≡ pairFrom ed s i
   unfolding pairFrom
   pair-none r z q = q ∙ rw (← e, eq-eqb (a .next) 0 z) refl
 
-  module _ (n : a .next ≡ 0 → ⊥) (d : DataField) (q : d ≡ dataFrom s (a .next)) where
-    pub pair-cut : (r : FieldPair) → d .next ≡ 0 → r ≡ noPair 0 → r ≡ pairFrom s i
+  module _ (n : a .next ≡ 0 → ⊥) (d : DataField) (q : d ≡ dataFrom ed s (a .next)) where
+    pub pair-cut : (r : FieldPair) → d .next ≡ 0 → r ≡ noPair 0 → r ≡ pairFrom ed s i
     unfolding pairFrom pairOf
     pair-cut r z w = w ∙ rw (← e, ne-eqb (a .next) 0 n, ← q, eq-eqb (d .next) 0 z) refl
 
     pub pair-is : (d .next ≡ 0 → ⊥)
-        → record { refusal = 0; volume = a .volume; track = a .track; sector = a .sector; nibbles = d .nibbles; next = d .next } ≡ pairFrom s i
+        → record { refusal = 0; volume = a .volume; track = a .track; sector = a .sector; nibbles = d .nibbles; next = d .next } ≡ pairFrom ed s i
     unfolding pairFrom pairOf
     pair-is z = rw (← e, ne-eqb (a .next) 0 n, ← q, ne-eqb (d .next) 0 z) refl
 

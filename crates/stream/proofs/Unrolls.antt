@@ -17,28 +17,13 @@ use Rattle.disk.specs.Disk.{place, bytesOf}
 use Rattle.outcome.specs.Outcome.{Outcome, refused, given, _>>=_, each}
 use Rattle.nibble.specs.Nibble.{encode, decode}
 use Rattle.nibble.proofs.RoundTrip.{round-trip, sum}
-use Rattle.stream.specs.Stream.{Field, fields, sumOk, sumsOk, sameKey, firsts, isStranger, firstVolume, interleave, bytesAt, image, held}
+use Rattle.stream.specs.declared.Edition.the-variants.{Sixteen}
+use Rattle.stream.specs.Editions.{perTrack, interleave, dosSector, sumOf, dataOf}
+use Rattle.stream.specs.Stream.{Field, fields, sumOk, sumsOk, sameKey, firsts, isStranger, firstVolume, bytesAt, image, held}
 use Rattle.stream.specs.Pieces.{Free, Piece, laid, Sound, Has}
 use Rattle.stream.proofs.Scanning.{field, fields-none, fields-spaced, length-sector}
 use Rattle.stream.proofs.Sizes.{Sized}
-
--- ---- the order of the sectors on a track, computed at its 16 places
-abbrev pub wayBack : ℕ → ℕ
-wayBack s = cond (eqb s 15) 15 (13 * s % 15)
-
--- a DOS sector
-pub interleave-lt : (p : ℕ) → p < 16 → interleave p < 16
-unfolding interleave
-interleave-lt p h = ltb→lt _ 16 (test-at (λ k x. ltb (interleave k) 16) (replicate 16 0) tt p h)
-
--- an address sector
-way-lt : (s : ℕ) → s < 16 → wayBack s < 16
-way-lt s h = ltb→lt _ 16 (test-at (λ k x. ltb (wayBack k) 16) (replicate 16 0) tt s h)
-
--- each DOS sector has its address sector
-way-back : (s : ℕ) → s < 16 → interleave (wayBack s) ≡ s
-unfolding interleave
-way-back s h = eqb→eq _ s (test-at (λ k x. eqb (interleave (wayBack k)) k) (replicate 16 0) tt s h)
+use Rattle.stream.proofs.Numbers.{wayBack, interleave-lt, way-lt, way-back}
 
 -- ---- joined parts
 -- y in front of what o gives
@@ -71,7 +56,7 @@ cond-is true a b y f e = f refl
 cond-is false a b y f e = e
 
 -- a field more, or not
-sums-cond : (t : Bool) (f : Field) (r : List Field) → sumOk (f .nibbles) ≡ true → sumsOk r ≡ true → sumsOk (cond t r (f ∷ r)) ≡ true
+sums-cond : (t : Bool) (f : Field) (r : List Field) → sumOk Sixteen (f .nibbles) ≡ true → sumsOk Sixteen r ≡ true → sumsOk Sixteen (cond t r (f ∷ r)) ≡ true
 unfolding all
 sums-cond true f r e q = q
 sums-cond false f r e q = rw (e, q) refl
@@ -92,15 +77,15 @@ module _ (v : ℕ) (d : List ℕ) where
   laid-long (x ∷ ps) last = rw (length-append, length-append, length-sector) (omega (arith, laid-long ps last))
 
   -- each piece is of the volume and on the disk
-  no-strangers : (ps : List Piece) → Sound ps → any (isStranger v) (map fieldOf ps) ≡ false
-  unfolding any fieldOf
+  no-strangers : (ps : List Piece) → Sound ps → any (isStranger Sixteen v) (map fieldOf ps) ≡ false
+  unfolding any fieldOf perTrack
   no-strangers [] s = refl
   no-strangers (x ∷ ps) s =
       rw (eq-eqb v v refl, le-ltb 34 (x .key / 16) (omega arith), le-ltb 15 (x .key % 16) (omega arith)) (no-strangers ps (s .3))
 
   -- the first field has the volume of all
-  one-volume : (ps : List Piece) → Sound ps → any (isStranger (firstVolume (map fieldOf ps))) (map fieldOf ps) ≡ false
-  unfolding any fieldOf
+  one-volume : (ps : List Piece) → Sound ps → any (isStranger Sixteen (firstVolume (map fieldOf ps))) (map fieldOf ps) ≡ false
+  unfolding any fieldOf perTrack
   one-volume [] s = refl
   one-volume (x ∷ ps) s = no-strangers (x ∷ ps) s
 
@@ -119,9 +104,9 @@ module _ (v : ℕ) (d : List ℕ) where
 
     -- fuel for each piece is enough
     scan : (fuel : ℕ) (ps : List Piece) (last : List ℕ) → length ps ≤ fuel → Sound ps → Free last
-        → fields fuel (laid v d ps last) ≡ given (map fieldOf ps)
+        → fields Sixteen fuel (laid v d ps last) ≡ given (map fieldOf ps)
     unfolding laid fieldOf
-    scan fuel [] last h s e = fields-none fuel last e
+    scan fuel [] last h s e = fields-none Sixteen fuel last e
     scan zero (x ∷ ps) last h s e = absurd (omega arith)
     scan (suc fuel) (x ∷ ps) last h s e =
         fields-spaced fuel v (x .key / 16) (x .key % 16) (x .gap) (x .middle) (held d (x .key)) (laid v d ps last)
@@ -129,8 +114,8 @@ module _ (v : ℕ) (d : List ℕ) where
         ∙ rw (scan fuel ps last (omega arith) (s .3) e) refl
 
     -- the data sums are right
-    sums : (ps : List Piece) (seen : List Field) → Sound ps → sumsOk (firsts seen (map fieldOf ps)) ≡ true
-    unfolding firsts all fieldOf
+    sums : (ps : List Piece) (seen : List Field) → Sound ps → sumsOk Sixteen (firsts seen (map fieldOf ps)) ≡ true
+    unfolding firsts all fieldOf sumOf
     sums [] seen s = refl
     sums (x ∷ ps) seen s =
         let z = sized-held (x .key) (omega arith) in
@@ -144,8 +129,8 @@ module _ (v : ℕ) (d : List ℕ) where
 
     -- one is found where a key that fits is among the pieces
     found : (t s j : ℕ) → t < 35 → s < 16 → j / 16 ≡ t → interleave (j % 16) ≡ s
-        → (ps : List Piece) → Has j ps → bytesAt t s (map fieldOf ps) ≡ given (sector t s)
-    unfolding bytesAt fieldOf
+        → (ps : List Piece) → Has j ps → bytesAt Sixteen t s (map fieldOf ps) ≡ given (sector t s)
+    unfolding bytesAt fieldOf dosSector dataOf
     found t s j ht hs et es [] m = absurd m
     found t s j ht hs et es (x ∷ ps) (inl e) = rw (e, eq-eqb _ _ et, eq-eqb _ _ es) (fits t s j ht hs et es)
     found t s j ht hs et es (x ∷ ps) (inr m) =
@@ -155,7 +140,7 @@ module _ (v : ℕ) (d : List ℕ) where
 
     -- the 256 bytes number k of the disk, from the field of their track and DOS sector
     found-at : (ps : List Piece) → ((k : ℕ) → k < 560 → Has k ps)
-        → (k : ℕ) → k < 560 → bytesAt (k / 16) (k % 16) (map fieldOf ps) ≡ given (take 256 (drop (256 * k) d))
+        → (k : ℕ) → k < 560 → bytesAt Sixteen (k / 16) (k % 16) (map fieldOf ps) ≡ given (take 256 (drop (256 * k) d))
     unfolding bytesOf
     found-at ps all k h =
         let w : ℕ = wayBack (k % 16) in
@@ -169,8 +154,8 @@ module _ (v : ℕ) (d : List ℕ) where
         ∙ rw ek refl
 
     -- every sector is among the pieces: the stream unrolls to d
-    pub unrolls : (ps : List Piece) (last : List ℕ) → Sound ps → Free last → ((k : ℕ) → k < 560 → Has k ps) → image (laid v d ps last) ≡ given d
-    unfolding image
+    pub unrolls : (ps : List Piece) (last : List ℕ) → Sound ps → Free last → ((k : ℕ) → k < 560 → Has k ps) → image Sixteen (laid v d ps last) ≡ given d
+    unfolding image perTrack
     unrolls ps last s e all =
         rw (scan (length (laid v d ps last)) ps last (laid-long ps last) s e, one-volume ps s, sums ps [] s)
-        (each-joins (λ k. bytesAt (k / 16) (k % 16) (map fieldOf ps)) (λ k. k) 560 d l (found-at ps all))
+        (each-joins (λ k. bytesAt Sixteen (k / 16) (k % 16) (map fieldOf ps)) (λ k. k) 560 d l (found-at ps all))

@@ -21,8 +21,9 @@ use Rattle.disk.specs.Disk.{byteOf, bytesOf, sized}
 use Rattle.disk.specs.Vtoc.{vtoc}
 use Rattle.nibble.specs.Nibble.{four, encode, encoded}
 use Rattle.nibble.proofs.Callers.{length-encode, encoded-given}
-use Rattle.stream.specs.Stream.{interleave, addressWriting, dataWriting, sectorSpaced, sectorWriting, held, block, nibblized}
-use Rattle.stream.proofs.Unrolls.{interleave-lt}
+use Rattle.stream.specs.Editions.{interleave}
+use Rattle.stream.specs.Stream.{addressWriting, dataWriting, sectorSpaced, sectorWriting, held, block, nibblized}
+use Rattle.stream.proofs.Numbers.{interleave-lt}
 use Rattle.stream.proofs.Written.{length-block, nibblized-is}
 
 -- ---- dos_sector

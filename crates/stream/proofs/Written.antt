@@ -17,6 +17,7 @@ use Rattle.outcome.specs.declared.Handed.{Handed}
 use Rattle.outcome.specs.declared.Refusal.the-variants.{OffSize}
 use Rattle.outcome.specs.Outcome.{given, handed, answerOf, acceptedWith, Hands}
 use Rattle.outcome.proofs.Outcome.{met, handed-fits, hands-given, hands-left}
+use Rattle.stream.specs.declared.Edition.the-variants.{Sixteen}
 use Rattle.stream.specs.Stream.{image, sectorSpaced, sectorWriting, held, block, nibblized}
 use Rattle.stream.specs.Pieces.{Piece, laid, Sound, Has}
 use Rattle.stream.proofs.Marks.{free-nil, free-replicate}
@@ -69,7 +70,7 @@ length-nibblized d s l e =
     rw (← q) (length-cats (block v d) 416 (length-block v d) 560)
 
 -- written and unrolled: the disk again
-pub nibblized-unrolls : (d s : List ℕ) → length d ≡ 143360 → Bytes d → nibblized d ≡ given s → image s ≡ given d
+pub nibblized-unrolls : (d s : List ℕ) → length d ≡ 143360 → Bytes d → nibblized d ≡ given s → image Sixteen s ≡ given d
 nibblized-unrolls d s l b e =
     let v : ℕ = byteOf 16 d vtoc 6 in
     let q : laid v d (row (λ k. k) 560) [] ≡ s = cc (nibblized-is d l, row-laid v d (λ k. k) 560) in
@@ -82,7 +83,7 @@ nibblized-sized d s e = eqb-true (length d) 143360 (met (eqb (length d) 143360) 
 
 -- the same of the two calls: what nibblize accepts and writes, denibblize accepts, and gives the disk back
 pub written-denibblizes : (d before after : List ℕ) (r : Handed) → Bytes d → Hands (nibblized d) before after r → r .refusal ≡ 0
-    → (out image-out : List ℕ) (q : Handed) → 143360 ≤ length out → Hands (image (take (r .length) after)) out image-out q
+    → (out image-out : List ℕ) (q : Handed) → 143360 ≤ length out → Hands (image Sixteen (take (r .length) after)) out image-out q
     → (q ≡ acceptedWith 143360) × (image-out ≡ d ++ drop 143360 out)
 written-denibblizes d before after r b h z out image-out q room k =
     let g = hands-given h z in
@@ -90,6 +91,6 @@ written-denibblizes d before after r b h z out image-out q room k =
     let l : length d ≡ 143360 = nibblized-sized d w (g .1) in
     let n : r .length ≡ length w = ap (λ (x : Handed). x .length) (h .answer ∙ ap answerOf (handed-fits (nibblized d) before (g .1) (g .2))) in
     let t : take (r .length) after ≡ w = ap (λ (m : ℕ). take m after) n ∙ ap (take (length w)) (g .3) ∙ take-at w (drop (length w) before) (length w) refl in
-    let i : image (take (r .length) after) ≡ given d = ap image t ∙ nibblized-unrolls d w l b (g .1) in
-    let f : handed (image (take (r .length) after)) out ≡ given d = handed-fits (image (take (r .length) after)) out i (omega arith) in
+    let i : image Sixteen (take (r .length) after) ≡ given d = ap (image Sixteen) t ∙ nibblized-unrolls d w l b (g .1) in
+    let f : handed (image Sixteen (take (r .length) after)) out ≡ given d = handed-fits (image Sixteen (take (r .length) after)) out i (omega arith) in
     (k .answer ∙ ap answerOf f ∙ ap acceptedWith l, hands-left d k i (omega arith) ∙ ap (λ (m : ℕ). d ++ drop m out) l)

@@ -1,3 +1,4 @@
+pub mod Editions
 pub mod Stream
 pub mod Pieces
 pub mod Search

@@ -8,7 +8,9 @@ use lib.Dec.{ltb, eqb}
 use lib.ListN.{length, getD, drop}
 use Rattle.outcome.specs.declared.Refusal.the-variants.{AddressSum}
 use Rattle.outcome.specs.Refusal.{code}
+use Rattle.stream.specs.Editions.{markOf, nibblesOf}
 use Rattle.stream.specs.Stream.{after, byte4}
+use Rattle.stream.specs.declared.Edition.{Edition}
 use Rattle.stream.specs.declared.AddressField.{AddressField}
 use Rattle.stream.specs.declared.DataField.{DataField}
 use Rattle.stream.specs.declared.FieldPair.{FieldPair}
@@ -45,19 +47,19 @@ addressIn a place =
     (noAddress (code AddressSum)))
 
 -- the first address from place i on
-unfoldable pub addressFrom : List ℕ → ℕ → AddressField
-addressFrom s i = let j = placeAfter 0x96 s i in cond (eqb j 0) (noAddress 0) (addressIn (drop j s) j)
+unfoldable pub addressFrom : Edition → List ℕ → ℕ → AddressField
+addressFrom ed s i = let j = placeAfter (markOf ed) s i in cond (eqb j 0) (noAddress 0) (addressIn (drop j s) j)
 
 -- ---- a data field
 -- no whole data field
 abbrev pub noData : DataField
 noData = record { nibbles = 0; next = 0 }
 
--- the first data field from place i on; 346: the nibbles, the sum and the three unread bytes
-unfoldable pub dataFrom : List ℕ → ℕ → DataField
-dataFrom s i =
+-- the first data field from place i on; 3: the three unread bytes
+unfoldable pub dataFrom : Edition → List ℕ → ℕ → DataField
+dataFrom ed s i =
     let j = placeAfter 0xAD s i in
-    cond (eqb j 0) noData (cond (ltb (length (drop j s)) 346) noData (record { nibbles = j; next = j + 346 }))
+    cond (eqb j 0) noData (cond (ltb (length (drop j s)) (nibblesOf ed + 3)) noData (record { nibbles = j; next = j + (nibblesOf ed + 3) }))
 
 -- ---- a pair of them
 -- no whole pair, or an address whose sum is wrong
@@ -71,5 +73,5 @@ pairOf a d =
     (record { refusal = 0; volume = a .volume; track = a .track; sector = a .sector; nibbles = d .nibbles; next = d .next })
 
 -- the first pair from place i on
-unfoldable pub pairFrom : List ℕ → ℕ → FieldPair
-pairFrom s i = let a = addressFrom s i in cond (eqb (a .next) 0) (noPair (a .refusal)) (pairOf a (dataFrom s (a .next)))
+unfoldable pub pairFrom : Edition → List ℕ → ℕ → FieldPair
+pairFrom ed s i = let a = addressFrom ed s i in cond (eqb (a .next) 0) (noPair (a .refusal)) (pairOf a (dataFrom ed s (a .next)))

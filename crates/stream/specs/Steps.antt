@@ -2,7 +2,7 @@
 use mathlib.Core.Path.{_≡_}
 use mathlib.Core.Bool.{Bool, true, false, cond, not, _&&_, _||_}
 use mathlib.Core.List.{List, [], _∷_}
-use Prim.Native.Nat.{ℕ, _+_, _*_, _<_, _≤_}
+use Prim.Native.Nat.{ℕ, _+_, _-_, _*_, _<_, _≤_}
 use lib.Dec.{ltb, eqb}
 use lib.ListN.{length, getD, take, drop}
 use Rattle.lists.specs.Fill.{cats}
@@ -10,8 +10,9 @@ use Rattle.lists.specs.Select.{any}
 use Rattle.outcome.specs.declared.Refusal.the-variants.{DataSum, Absent, Stranger}
 use Rattle.outcome.specs.Refusal.{code}
 use Rattle.outcome.specs.Outcome.{Outcome, refused, given, number}
-use Rattle.nibble.specs.Nibble.{decode}
-use Rattle.stream.specs.Stream.{Field, fields, sameKey, sumOk, interleave, image}
+use Rattle.stream.specs.declared.Edition.{Edition}
+use Rattle.stream.specs.Editions.{nibblesOf, perTrack, dosSector, dataOf}
+use Rattle.stream.specs.Stream.{Field, fields, sameKey, sumOk, image}
 use Rattle.stream.specs.declared.FieldPair.{FieldPair}
 use Rattle.stream.specs.declared.Located.{Located}
 use Rattle.stream.specs.declared.Places.{Places}
@@ -22,33 +23,7 @@ use Rattle.stream.specs.Scan.{markAt, pairFrom}
 unfoldable pub prologueAt : List ℕ → ℕ → ℕ
 prologueAt s k = cond (markAt 0x96 s k) 0x96 (cond (markAt 0xB5 s k) 0xB5 0)
 
--- ---- the pairs of a stream
--- the fields from place i on
-unfoldable pub fieldsFrom : List ℕ → ℕ → Outcome (List Field)
-fieldsFrom s i = fields (length s) (drop i s)
-
--- the field of a pair
-abbrev pub fieldOf : List ℕ → FieldPair → Field
-fieldOf s p = record { volume = p .volume; track = p .track; sector = p .sector; nibbles = take 343 (drop (p .nibbles) s) }
-
--- from place i on stand the pairs xs, and behind them is place e
-abbrev pub Run : List ℕ → ℕ → ℕ → List Field → Type 0
-Run s i e [] = i ≡ e
-Run s i e (x ∷ xs) = (0 < pairFrom s i .next) × (fieldOf s (pairFrom s i) ≡ x) × Run s (pairFrom s i .next) e xs
-
--- ---- a sector by its key
--- r says whether a pair before place e has the key of p
-pub record Repeats (s : List ℕ) (e : ℕ) (p : FieldPair) (r : Bool) : Type 0 where
-  pub is : (xs : List Field) → Run s 0 e xs → r ≡ any (sameKey (fieldOf s p)) xs
-
--- r says whether the sums of the fields that count are right up to the pair p at place e, where `good` says so of those before it
-pub record Judges (s : List ℕ) (e : ℕ) (p : FieldPair) (good r : Bool) : Type 0 where
-  pub is : (xs : List Field) → Run s 0 e xs → r ≡ (good && (any (sameKey (fieldOf s p)) xs || sumOk (fieldOf s p .nibbles)))
-
--- the bytes of the 343 nibbles at a place; 10 for no place
-unfoldable pub sectorAt : List ℕ → ℕ → Outcome (List ℕ)
-sectorAt s at = cond (eqb at 0) (refused Absent) (given (decode (take 343 (drop at s))))
-
+-- ---- small steps
 -- the place of the first nibbles that are wanted: `at`, or those of p if p is wanted
 abbrev pub firstPlace : ℕ → Bool → ℕ → ℕ
 firstPlace at wanted nibbles = cond (eqb at 0) (cond wanted nibbles 0) at
@@ -61,52 +36,80 @@ keyed v t s p = eqb (p .volume) v && (eqb (p .track) t && eqb (p .sector) s)
 abbrev pub verdict : Bool → ℕ → Located
 verdict good at = cond good (cond (eqb at 0) (record { refusal = code Absent; nibbles = 0 }) (record { refusal = 0; nibbles = at })) (record { refusal = code DataSum; nibbles = 0 })
 
--- r says where in s the bytes that o gives stand as nibbles, or why there are none
-pub record Locates (s : List ℕ) (o : Outcome (List ℕ)) (r : Located) : Type 0 where
-  pub number-is : r .refusal ≡ number o
-  pub place-is : r .refusal ≡ 0 → o ≡ given (decode (take 343 (drop (r .nibbles) s)))
-  pub within : r .refusal ≡ 0 → r .nibbles + 346 ≤ length s
+module _ (ed : Edition) where
+  -- ---- the pairs of a stream
+  -- the fields from place i on
+  unfoldable pub fieldsFrom : List ℕ → ℕ → Outcome (List Field)
+  fieldsFrom s i = fields ed (length s) (drop i s)
 
--- ---- denibblize
--- p is not of volume v, or not on the disk
-abbrev pub strange : ℕ → FieldPair → Bool
-strange v p = not (eqb (p .volume) v) || (ltb 34 (p .track) || ltb 15 (p .sector))
+  -- the field of a pair
+  abbrev pub fieldOf : List ℕ → FieldPair → Field
+  fieldOf s p = record { volume = p .volume; track = p .track; sector = p .sector; nibbles = take (nibblesOf ed) (drop (p .nibbles) s) }
 
--- the number of the DOS sector that p holds
-abbrev pub numberOf : FieldPair → ℕ
-numberOf p = 16 * p .track + interleave (p .sector)
+  -- from place i on stand the pairs xs, and behind them is place e
+  abbrev pub Run : List ℕ → ℕ → ℕ → List Field → Type 0
+  Run s i e [] = i ≡ e
+  Run s i e (x ∷ xs) = (0 < pairFrom ed s i .next) × (fieldOf s (pairFrom ed s i) ≡ x) × Run s (pairFrom ed s i .next) e xs
 
--- the sum of p is right, or an earlier pair of its sector stands at `old`
-abbrev pub sumCounts : List ℕ → FieldPair → ℕ → Bool → Bool
-sumCounts s p old good = good && (not (eqb old 0) || sumOk (take 343 (drop (p .nibbles) s)))
+  -- ---- a sector by its key
+  -- r says whether a pair before place e has the key of p
+  pub record Repeats (s : List ℕ) (e : ℕ) (p : FieldPair) (r : Bool) : Type 0 where
+    pub is : (xs : List Field) → Run s 0 e xs → r ≡ any (sameKey (fieldOf s p)) xs
 
--- the bytes of DOS sector k, whose nibbles stand where `at` says
-unfoldable pub heldAt : List ℕ → List ℕ → ℕ → List ℕ
-heldAt s at k = decode (take 343 (drop (getD at k 0) s))
+  -- r says whether the sums of the fields that count are right up to the pair p at place e, where `good` says so of those before it
+  pub record Judges (s : List ℕ) (e : ℕ) (p : FieldPair) (good r : Bool) : Type 0 where
+    pub is : (xs : List Field) → Run s 0 e xs → r ≡ (good && (any (sameKey (fieldOf s p)) xs || sumOk ed (fieldOf s p .nibbles)))
 
--- r says whether each sector has a place
-pub data Complete (at : List ℕ) (r : Bool) : Type 0 where
-  yes : r ≡ true → ((k : ℕ) → k < 560 → getD at k 0 ≡ 0 → ⊥) → Complete at r
-  no : r ≡ false → (k : ℕ) → k < 560 → getD at k 0 ≡ 0 → Complete at r
+  -- the bytes of the nibbles at a place; 10 for no place
+  unfoldable pub sectorAt : List ℕ → ℕ → Outcome (List ℕ)
+  sectorAt s at = cond (eqb at 0) (refused Absent) (given (dataOf ed (take (nibblesOf ed) (drop at s))))
 
--- the answer at the end of the scan
-pub data Decides (good : Bool) (at : List ℕ) (r : Places) : Type 0 where
-  sum : good ≡ false → r ≡ record { refusal = code DataSum; at = at } → Decides good at r
-  absent : good ≡ true → r ≡ record { refusal = code Absent; at = at } → (k : ℕ) → k < 560 → getD at k 0 ≡ 0 → Decides good at r
-  all : good ≡ true → r ≡ record { refusal = 0; at = at } → ((k : ℕ) → k < 560 → getD at k 0 ≡ 0 → ⊥) → Decides good at r
+  -- r says where in s the bytes that o gives stand as nibbles, or why there are none
+  pub record Locates (s : List ℕ) (o : Outcome (List ℕ)) (r : Located) : Type 0 where
+    pub number-is : r .refusal ≡ number o
+    pub place-is : r .refusal ≡ 0 → o ≡ given (dataOf ed (take (nibblesOf ed) (drop (r .nibbles) s)))
+    pub within : r .refusal ≡ 0 → r .nibbles + (nibblesOf ed + 3) ≤ length s
 
--- the answer where a stranger is met and the scan would go on at place i
-pub data Meets (s : List ℕ) (i : ℕ) (r : Places) : Type 0 where
-  stranger : r .refusal ≡ code Stranger → number (fieldsFrom s i) ≡ 0 → Meets s i r
-  address : r .refusal ≡ number (fieldsFrom s i) → (r .refusal ≡ 0 → ⊥) → Meets s i r
+  -- ---- denibblize
+  -- p is not of volume v, or not on the disk
+  abbrev pub strange : ℕ → FieldPair → Bool
+  strange v p = not (eqb (p .volume) v) || (ltb 34 (p .track) || ltb (perTrack ed - 1) (p .sector))
 
--- each place has its nibbles in s
-pub record Within (s at : List ℕ) : Type 0 where
-  pub within : (k : ℕ) → k < 560 → getD at k 0 + 346 ≤ length s
-  pub long : length at ≡ 560
+  -- the number of the DOS sector that p holds
+  abbrev pub numberOf : FieldPair → ℕ
+  numberOf p = perTrack ed * p .track + dosSector ed (p .sector)
 
--- r says where in s the sectors of its image stand, or why there is none
-pub record Surveys (s : List ℕ) (r : Places) : Type 0 where
-  pub number-is : r .refusal ≡ number (image s)
-  pub image-is : r .refusal ≡ 0 → image s ≡ given (cats (heldAt s (r .at)) 560)
-  pub fits : r .refusal ≡ 0 → Within s (r .at)
+  -- the sum of p is right, or an earlier pair of its sector stands at `old`
+  abbrev pub sumCounts : List ℕ → FieldPair → ℕ → Bool → Bool
+  sumCounts s p old good = good && (not (eqb old 0) || sumOk ed (take (nibblesOf ed) (drop (p .nibbles) s)))
+
+  -- the bytes of DOS sector k, whose nibbles stand where `at` says
+  unfoldable pub heldAt : List ℕ → List ℕ → ℕ → List ℕ
+  heldAt s at k = dataOf ed (take (nibblesOf ed) (drop (getD at k 0) s))
+
+  -- r says whether each sector has a place
+  pub data Complete (at : List ℕ) (r : Bool) : Type 0 where
+    yes : r ≡ true → ((k : ℕ) → k < 35 * perTrack ed → getD at k 0 ≡ 0 → ⊥) → Complete at r
+    no : r ≡ false → (k : ℕ) → k < 35 * perTrack ed → getD at k 0 ≡ 0 → Complete at r
+
+  -- the answer at the end of the scan
+  pub data Decides (good : Bool) (at : List ℕ) (r : Places) : Type 0 where
+    sum : good ≡ false → r ≡ record { refusal = code DataSum; at = at } → Decides good at r
+    absent : good ≡ true → r ≡ record { refusal = code Absent; at = at } → (k : ℕ) → k < 35 * perTrack ed → getD at k 0 ≡ 0 → Decides good at r
+    all : good ≡ true → r ≡ record { refusal = 0; at = at } → ((k : ℕ) → k < 35 * perTrack ed → getD at k 0 ≡ 0 → ⊥) → Decides good at r
+
+  -- the answer where a stranger is met and the scan would go on at place i
+  pub data Meets (s : List ℕ) (i : ℕ) (r : Places) : Type 0 where
+    stranger : r .refusal ≡ code Stranger → number (fieldsFrom s i) ≡ 0 → Meets s i r
+    address : r .refusal ≡ number (fieldsFrom s i) → (r .refusal ≡ 0 → ⊥) → Meets s i r
+
+  -- each place has its nibbles in s
+  pub record Within (s at : List ℕ) : Type 0 where
+    pub within : (k : ℕ) → k < 35 * perTrack ed → getD at k 0 + (nibblesOf ed + 3) ≤ length s
+    pub long : length at ≡ 560
+
+  -- r says where in s the sectors of its image stand, or why there is none
+  pub record Surveys (s : List ℕ) (r : Places) : Type 0 where
+    pub number-is : r .refusal ≡ number (image ed s)
+    pub image-is : r .refusal ≡ 0 → image ed s ≡ given (cats (heldAt s (r .at)) (35 * perTrack ed))
+    pub fits : r .refusal ≡ 0 → Within s (r .at)

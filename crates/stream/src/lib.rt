@@ -2,13 +2,15 @@
 ghost use mathlib.Core.Path.{_≡_};
 ghost use mathlib.Core.List.{_++_};
 ghost use Prim.Native.Nat.{_+_, _*_, _≤_, _<_};
-ghost use lib.ListN.{length, drop, replicate};
+ghost use lib.ListN.{length, take, drop, replicate};
 ghost use Rattle.lists.specs.Fill.{put, placed, cats};
 ghost use Rattle.outcome.specs.Outcome.{number, Hands};
 ghost use Rattle.stream.specs.Search.{skip, isMark, Clear, recognized};
 ghost use Rattle.stream.specs.Scan.{byteAt4, markAt, placeAfter, noAddress, addressFrom, dataFrom, noPair, pairFrom};
 ghost use Rattle.stream.specs.Steps.{prologueAt, keyed, firstPlace, verdict, Repeats, Judges, Locates, fieldsFrom, strange, numberOf, sumCounts, heldAt, Complete, Within, Decides, Meets, Surveys};
-ghost use Rattle.stream.specs.Stream.{Denibblized, sectorOf, interleave, addressWriting, sectorWriting, block, nibblized};
+ghost use Rattle.stream.specs.declared.Edition.the-variants.{Sixteen, Thirteen};
+ghost use Rattle.stream.specs.Editions.{markOf, nibblesOf, perTrack, interleave, dosSector, sumOf, dataOf};
+ghost use Rattle.stream.specs.Stream.{Denibblized, sectorOf, addressWriting, sectorWriting, block, nibblized};
 use disk::Place;
 use disk::Sector;
 use disk::Track;
@@ -19,6 +21,7 @@ use lists::fill_at;
 use nibble::build_nibble_byte_4_and_4;
 use nibble::data_sum;
 use nibble::encode_sector;
+use nibble::five_three;
 use nibble::parse_nibble_byte_4_and_4;
 use nibble::sector_data;
 use outcome::ABSENT;
@@ -31,6 +34,12 @@ use outcome::TRAY_SHORT;
 use outcome::accepted;
 use outcome::refused;
 
+// The two editions of a stream: DOS 3.3 with 16 sectors a track, DOS 3.2 with 13.
+pub enum Edition {
+    Sixteen,
+    Thirteen,
+}
+
 // An address field: what it says and the place behind it, 0 where there is none. `refusal` is 8 where its sum is wrong.
 pub struct AddressField {
     pub refusal: u8,
@@ -40,7 +49,7 @@ pub struct AddressField {
     pub next: usize,
 }
 
-// A data field: the place of its 343 nibbles, the sum among them, and the place behind it; 0 where there is none.
+// A data field: the place of its nibbles, the sum among them, and the place behind it; 0 where there is none.
 pub struct DataField {
     pub nibbles: usize,
     pub next: usize,
@@ -198,6 +207,71 @@ fn byte_4_and_4(s: &[u8], j: usize, k: usize) -> u8
     parse_nibble_byte_4_and_4(byte_at(s, j + 2 * k), byte_at(s, j + (2 * k + 1)))
 }
 
+// The last byte of an edition's address prologue.
+fn mark_of(ed: Edition) -> u8
+    ensures is { λ r. ⌜ r ≡ markOf ed ⌝ }
+    ensures some { λ r. ⌜ 0 < r ⌝ }
+{
+    match ed {
+        Edition::Sixteen => 0x96,
+        Edition::Thirteen => 0xB5,
+    }
+}
+
+// The nibbles of an edition's data field, the sum among them.
+fn nibbles_in(ed: Edition) -> usize
+    ensures is { λ r. ⌜ r ≡ nibblesOf ed ⌝ }
+    ensures small { λ r. ⌜ r ≤ 411 ⌝ }
+{
+    match ed {
+        Edition::Sixteen => 343,
+        Edition::Thirteen => 411,
+    }
+}
+
+// The sectors of an edition's track.
+pub fn per_track(ed: Edition) -> u8
+    ensures is { λ r. ⌜ r ≡ perTrack ed ⌝ }
+    ensures some { λ r. ⌜ 0 < r ⌝ }
+    ensures small { λ r. ⌜ r ≤ 16 ⌝ }
+{
+    match ed {
+        Edition::Sixteen => 16,
+        Edition::Thirteen => 13,
+    }
+}
+
+// The XOR with the sum nibble of the data field whose nibbles stand at place a.
+fn sum_at(s: &[u8], a: usize, ed: Edition) -> u8
+    requires { ⌜ a + (nibblesOf ed + 3) ≤ length (now s) ⌝ }
+    ensures { λ r. ⌜ r ≡ sumOf ed (take (nibblesOf ed) (drop a (now (s .entry)))) ⌝ }
+{
+    let end = a + nibbles_in(ed);
+    match ed {
+        Edition::Sixteen => data_sum(&s[a..end]),
+        Edition::Thirteen => five_three::data_sum(&s[a..end]),
+    }
+}
+
+// Puts the 256 bytes of that data field into out from place `at`.
+fn put_data(s: &[u8], a: usize, out: &mut [u8], at: usize, ed: Edition)
+    requires { ⌜ (a + (nibblesOf ed + 3) ≤ length (now s)) × (at + 256 ≤ length (now out)) ⌝ }
+    ensures { λ _. ⌜ now (out .exit) ≡ put at (dataOf ed (take (nibblesOf ed) (drop a (now (s .entry))))) (now (out .entry)) ⌝ }
+{
+    let end = a + nibbles_in(ed);
+    match ed {
+        Edition::Sixteen => sector_data(&s[a..end], &mut out[at..]),
+        Edition::Thirteen => five_three::sector_data(&s[a..end], &mut out[at..]),
+    }
+}
+
+// The place behind the first address prologue from i on, 0 where there is none.
+fn find_address(s: &[u8], i: usize, ed: Edition) -> usize
+    ensures { λ r. ⌜ r ≡ placeAfter (markOf ed) (now (s .entry)) i ⌝ }
+{
+    find_prologue(s, i, mark_of(ed))
+}
+
 // No address, or one that is refused.
 fn no_address(number: u8) -> AddressField
     ensures { λ r. ⌜ r ≡ noAddress number ⌝ }
@@ -212,10 +286,10 @@ fn no_address(number: u8) -> AddressField
 }
 
 // The first address field from place i on; refusal 8.
-pub fn find_and_parse_address_field(s: &[u8], i: usize) -> AddressField
-    ensures { λ r. ⌜ r ≡ addressFrom (now (s .entry)) i ⌝ }
+pub fn find_and_parse_address_field(s: &[u8], i: usize, ed: Edition) -> AddressField
+    ensures { λ r. ⌜ r ≡ addressFrom ed (now (s .entry)) i ⌝ }
 {
-    let j = find_prologue(s, i, 0x96);
+    let j = find_address(s, i, ed);
     if j == 0 {
         return no_address(0);
     }
@@ -239,8 +313,8 @@ pub fn find_and_parse_address_field(s: &[u8], i: usize) -> AddressField
 }
 
 // The first data field from place i on.
-pub fn find_and_parse_data_field(s: &[u8], i: usize) -> DataField
-    ensures { λ r. ⌜ r ≡ dataFrom (now (s .entry)) i ⌝ }
+pub fn find_and_parse_data_field(s: &[u8], i: usize, ed: Edition) -> DataField
+    ensures { λ r. ⌜ r ≡ dataFrom ed (now (s .entry)) i ⌝ }
 {
     let j = find_prologue(s, i, 0xAD);
     if j == 0 {
@@ -249,7 +323,8 @@ pub fn find_and_parse_data_field(s: &[u8], i: usize) -> DataField
             next: 0,
         };
     }
-    if s.len() - j < 346 {
+    let size = nibbles_in(ed) + 3;
+    if s.len() - j < size {
         return DataField {
             nibbles: 0,
             next: 0,
@@ -257,7 +332,7 @@ pub fn find_and_parse_data_field(s: &[u8], i: usize) -> DataField
     }
     DataField {
         nibbles: j,
-        next: j + 346,
+        next: j + size,
     }
 }
 
@@ -276,14 +351,14 @@ fn no_pair(number: u8) -> FieldPair
 }
 
 // The first whole pair of fields from place i on; refusal 8. The next call goes on at `next`.
-pub fn parse_nib_sector(s: &[u8], i: usize) -> FieldPair
-    ensures { λ r. ⌜ r ≡ pairFrom (now (s .entry)) i ⌝ }
+pub fn parse_nib_sector(s: &[u8], i: usize, ed: Edition) -> FieldPair
+    ensures { λ r. ⌜ r ≡ pairFrom ed (now (s .entry)) i ⌝ }
 {
-    let a = find_and_parse_address_field(s, i);
+    let a = find_and_parse_address_field(s, i, ed);
     if a.next == 0 {
         return no_pair(a.refusal);
     }
-    let d = find_and_parse_data_field(s, a.next);
+    let d = find_and_parse_data_field(s, a.next, ed);
     if d.next == 0 {
         return no_pair(0);
     }
@@ -311,12 +386,12 @@ fn has_key(p: FieldPair, volume: u8, track: u8, sector: u8) -> bool
 }
 
 // A pair before place e has the key of p.
-fn repeated(s: &[u8], e: usize, p: FieldPair) -> bool
-    ensures { λ r. ⌜ Repeats (now (s .entry)) e p r ⌝ }
+fn repeated(s: &[u8], e: usize, p: FieldPair, ed: Edition) -> bool
+    ensures { λ r. ⌜ Repeats ed (now (s .entry)) e p r ⌝ }
 {
     let mut i: usize = 0;
     while i < e {
-        let q = parse_nib_sector(s, i);
+        let q = parse_nib_sector(s, i, ed);
         if q.next == 0 {
             return false;
         }
@@ -329,17 +404,15 @@ fn repeated(s: &[u8], e: usize, p: FieldPair) -> bool
 }
 
 // The sums of the fields that count are right up to the pair p at place e. An earlier field of its key is looked for only where its sum is wrong.
-fn sums_right(s: &[u8], e: usize, p: FieldPair, good: bool) -> bool
-    requires { ⌜ p .nibbles + 346 ≤ length (now s) ⌝ }
-    ensures { λ r. ⌜ Judges (now (s .entry)) e p good r ⌝ }
+fn sums_right(s: &[u8], e: usize, p: FieldPair, good: bool, ed: Edition) -> bool
+    requires { ⌜ p .nibbles + (nibblesOf ed + 3) ≤ length (now s) ⌝ }
+    ensures { λ r. ⌜ Judges ed (now (s .entry)) e p good r ⌝ }
 {
     if good {
-        let a = p.nibbles;
-        let end = a + 343;
-        if data_sum(&s[a..end]) == 0 {
+        if sum_at(s, p.nibbles, ed) == 0 {
             return true;
         }
-        return repeated(s, e, p);
+        return repeated(s, e, p, ed);
     }
     false
 }
@@ -380,14 +453,14 @@ fn verdict_of(good: bool, at: usize) -> Located
 }
 
 // Where the sector of a key stands; refusals 8, 9, 10.
-fn locate(s: &[u8], volume: u8, track: u8, sector: u8) -> Located
-    ensures { λ r. ⌜ Locates (now (s .entry)) (sectorOf volume track sector (now (s .entry))) r ⌝ }
+fn locate(s: &[u8], volume: u8, track: u8, sector: u8, ed: Edition) -> Located
+    ensures { λ r. ⌜ Locates ed (now (s .entry)) (sectorOf ed volume track sector (now (s .entry))) r ⌝ }
 {
     let mut i: usize = 0;
     let mut good = true;
     let mut at: usize = 0;
     loop {
-        let p = parse_nib_sector(s, i);
+        let p = parse_nib_sector(s, i, ed);
         if p.refusal != 0 {
             return Located {
                 refusal: ADDRESS_SUM,
@@ -397,28 +470,39 @@ fn locate(s: &[u8], volume: u8, track: u8, sector: u8) -> Located
         if p.next == 0 {
             return verdict_of(good, at);
         }
-        good = sums_right(s, i, p, good);
+        good = sums_right(s, i, p, good, ed);
         at = first_place(at, has_key(p, volume, track, sector), p.nibbles);
         i = p.next;
     }
 }
 
-// The 256 bytes of an address field's volume, track and sector (in the Rust parse_nib_disk, asked key by key); refusals 8, 9, 10, 12.
-pub fn sector(s: &[u8], volume: u8, track: u8, sector: u8, out: &mut [u8]) -> Handed
-    ensures { λ r. ⌜ Hands (sectorOf volume track sector (now (s .entry))) (now (out .entry)) (now (out .exit)) r ⌝ }
+// The 256 bytes of an address field's volume, track and sector; refusals 8, 9, 10, 12.
+fn sector_of(s: &[u8], volume: u8, track: u8, sector: u8, out: &mut [u8], ed: Edition) -> Handed
+    ensures { λ r. ⌜ Hands (sectorOf ed volume track sector (now (s .entry))) (now (out .entry)) (now (out .exit)) r ⌝ }
 {
-    let found = locate(s, volume, track, sector);
+    let found = locate(s, volume, track, sector, ed);
     if found.refusal != 0 {
         return refused(found.refusal);
     }
     if out.len() < 256 {
         return refused(TRAY_SHORT);
     }
-    let a = found.nibbles;
-    let end = a + 343;
-    let data = sector_data(&s[a..end]);
-    copy_at(&data, out, 0);
+    put_data(s, found.nibbles, out, 0, ed);
     accepted(256)
+}
+
+// The same of a stream of 16 sectors a track (in the Rust parse_nib_disk, asked key by key).
+pub fn sector(s: &[u8], volume: u8, track: u8, sector: u8, out: &mut [u8]) -> Handed
+    ensures { λ r. ⌜ Hands (sectorOf Sixteen volume track sector (now (s .entry))) (now (out .entry)) (now (out .exit)) r ⌝ }
+{
+    sector_of(s, volume, track, sector, out, Edition::Sixteen)
+}
+
+// The same of a stream of 13.
+pub fn sector_13(s: &[u8], volume: u8, track: u8, sector: u8, out: &mut [u8]) -> Handed
+    ensures { λ r. ⌜ Hands (sectorOf Thirteen volume track sector (now (s .entry))) (now (out .entry)) (now (out .exit)) r ⌝ }
+{
+    sector_of(s, volume, track, sector, out, Edition::Thirteen)
 }
 
 // The DOS sector of address sector p.
@@ -431,13 +515,23 @@ pub fn dos_sector(p: u8) -> u8
     (7 * (p as u16) % 15) as u8
 }
 
+// The DOS sector of address sector p in an edition.
+fn dos_sector_of(p: u8, ed: Edition) -> u8
+    ensures { λ r. ⌜ r ≡ dosSector ed p ⌝ }
+{
+    match ed {
+        Edition::Sixteen => dos_sector(p),
+        Edition::Thirteen => p,
+    }
+}
+
 // 8 where the scan from place i on meets a wrong address sum, else 0.
-fn address_refusal(s: &[u8], i: usize) -> u8
-    ensures { λ r. ⌜ r ≡ number (fieldsFrom (now (s .entry)) i) ⌝ }
+fn address_refusal(s: &[u8], i: usize, ed: Edition) -> u8
+    ensures { λ r. ⌜ r ≡ number (fieldsFrom ed (now (s .entry)) i) ⌝ }
 {
     let mut k = i;
     loop {
-        let p = parse_nib_sector(s, k);
+        let p = parse_nib_sector(s, k, ed);
         if p.refusal != 0 {
             return ADDRESS_SUM;
         }
@@ -449,8 +543,8 @@ fn address_refusal(s: &[u8], i: usize) -> u8
 }
 
 // The pair is of another volume, or not on the disk.
-fn is_stranger(p: FieldPair, volume: u8) -> bool
-    ensures { λ r. ⌜ r ≡ strange volume p ⌝ }
+fn is_stranger(p: FieldPair, volume: u8, ed: Edition) -> bool
+    ensures { λ r. ⌜ r ≡ strange ed volume p ⌝ }
 {
     if p.volume != volume {
         return true;
@@ -458,38 +552,45 @@ fn is_stranger(p: FieldPair, volume: u8) -> bool
     if 34 < p.track {
         return true;
     }
-    15 < p.sector
+    per_track(ed) - 1 < p.sector
+}
+
+// The product of two bytes.
+fn times(a: u8, b: u8) -> usize
+    ensures is { λ r. ⌜ r ≡ a * b ⌝ }
+    ensures small { λ r. ⌜ r < 65536 ⌝ }
+{
+    a as usize * b as usize
 }
 
 // The number of the DOS sector that a pair holds.
-fn sector_number(p: FieldPair) -> usize
-    ensures { λ r. ⌜ r ≡ numberOf p ⌝ }
+fn sector_number(p: FieldPair, ed: Edition) -> usize
+    ensures { λ r. ⌜ r ≡ numberOf ed p ⌝ }
 {
-    16 * (p.track as usize) + dos_sector(p.sector) as usize
+    times(per_track(ed), p.track) + dos_sector_of(p.sector, ed) as usize
 }
 
 // The sums of the fields that count are right, p among them if it is the first of its sector.
-fn sum_counts(s: &[u8], p: FieldPair, old: usize, good: bool) -> bool
-    requires { ⌜ p .nibbles + 346 ≤ length (now s) ⌝ }
-    ensures { λ r. ⌜ r ≡ sumCounts (now (s .entry)) p old good ⌝ }
+fn sum_counts(s: &[u8], p: FieldPair, old: usize, good: bool, ed: Edition) -> bool
+    requires { ⌜ p .nibbles + (nibblesOf ed + 3) ≤ length (now s) ⌝ }
+    ensures { λ r. ⌜ r ≡ sumCounts ed (now (s .entry)) p old good ⌝ }
 {
     if good {
         if old != 0 {
             return true;
         }
-        let a = p.nibbles;
-        let end = a + 343;
-        return data_sum(&s[a..end]) == 0;
+        return sum_at(s, p.nibbles, ed) == 0;
     }
     false
 }
 
 // Each sector has a place.
-fn complete(at: &[usize; 560]) -> bool
-    ensures { λ r. ⌜ Complete (now (at .entry)) r ⌝ }
+fn complete(at: &[usize; 560], ed: Edition) -> bool
+    ensures { λ r. ⌜ Complete ed (now (at .entry)) r ⌝ }
 {
+    let n = 35 * (per_track(ed) as usize);
     let mut k: usize = 0;
-    while k < 560 {
+    while k < n {
         if at[k] == 0 {
             return false;
         }
@@ -499,11 +600,11 @@ fn complete(at: &[usize; 560]) -> bool
 }
 
 // Where the sectors of a disk stand at the end of the scan.
-fn places_of(good: bool, at: [usize; 560]) -> Places
-    ensures { λ r. ⌜ Decides good at r ⌝ }
+fn places_of(good: bool, at: [usize; 560], ed: Edition) -> Places
+    ensures { λ r. ⌜ Decides ed good at r ⌝ }
 {
     if good {
-        if complete(&at) {
+        if complete(&at, ed) {
             return Places { refusal: 0, at: at };
         }
         return Places {
@@ -518,10 +619,10 @@ fn places_of(good: bool, at: [usize; 560]) -> Places
 }
 
 // The answer where a stranger is met: an address sum further on comes before it.
-fn stranger_met(s: &[u8], i: usize, at: [usize; 560]) -> Places
-    ensures { λ r. ⌜ Meets (now (s .entry)) i r ⌝ }
+fn stranger_met(s: &[u8], i: usize, at: [usize; 560], ed: Edition) -> Places
+    ensures { λ r. ⌜ Meets ed (now (s .entry)) i r ⌝ }
 {
-    let number = address_refusal(s, i);
+    let number = address_refusal(s, i, ed);
     if number == 0 {
         return Places {
             refusal: STRANGER,
@@ -535,15 +636,15 @@ fn stranger_met(s: &[u8], i: usize, at: [usize; 560]) -> Places
 }
 
 // Where the sectors of a disk stand; refusals 8, 11, 9, 10. No bytes are decoded.
-fn survey(s: &[u8]) -> Places
-    ensures { λ r. ⌜ Surveys (now (s .entry)) r ⌝ }
+fn survey(s: &[u8], ed: Edition) -> Places
+    ensures { λ r. ⌜ Surveys ed (now (s .entry)) r ⌝ }
 {
-    let first = parse_nib_sector(s, 0);
+    let first = parse_nib_sector(s, 0, ed);
     let mut i: usize = 0;
     let mut good = true;
     let mut at = [0usize; 560];
     loop {
-        let p = parse_nib_sector(s, i);
+        let p = parse_nib_sector(s, i, ed);
         if p.refusal != 0 {
             return Places {
                 refusal: ADDRESS_SUM,
@@ -551,48 +652,61 @@ fn survey(s: &[u8]) -> Places
             };
         }
         if p.next == 0 {
-            return places_of(good, at);
+            return places_of(good, at, ed);
         }
-        if is_stranger(p, first.volume) {
-            return stranger_met(s, p.next, at);
+        if is_stranger(p, first.volume, ed) {
+            return stranger_met(s, p.next, at, ed);
         }
-        let k = sector_number(p);
+        let k = sector_number(p, ed);
         let old = at[k];
-        good = sum_counts(s, p, old, good);
+        good = sum_counts(s, p, old, good, ed);
         at[k] = first_place(old, true, p.nibbles);
         i = p.next;
     }
 }
 
 // Decodes the sectors from their places.
-fn put_image(s: &[u8], at: &[usize; 560], out: &mut [u8])
-    requires { ⌜ Within (now s) (now at) × (143360 ≤ length (now out)) ⌝ }
-    ensures { λ _. ⌜ now (out .exit) ≡ put 0 (cats (heldAt (now (s .entry)) (now (at .entry))) 560) (now (out .entry)) ⌝ }
+fn put_image(s: &[u8], at: &[usize; 560], out: &mut [u8], ed: Edition)
+    requires { ⌜ Within ed (now s) (now at) × (256 * (35 * perTrack ed) ≤ length (now out)) ⌝ }
+    ensures { λ _. ⌜ now (out .exit) ≡ put 0 (cats (heldAt ed (now (s .entry)) (now (at .entry))) (35 * perTrack ed)) (now (out .entry)) ⌝ }
 {
+    let n = 35 * (per_track(ed) as usize);
     let mut k: usize = 0;
-    while k < 560 {
-        let a = at[k];
-        let end = a + 343;
-        let data = sector_data(&s[a..end]);
-        copy_at(&data, out, 256 * k);
+    while k < n {
+        put_data(s, at[k], out, 256 * k, ed);
         k += 1;
     }
 }
 
-// The flat disk that a stream holds, 143,360 bytes (not in the Rust); refusals 8, 11, 9, 10, 12. One pass looks at sums alone, then the sectors are decoded.
-pub fn denibblize(s: &[u8], out: &mut [u8]) -> Handed
-    ensures { λ r. ⌜ Denibblized (now (s .entry)) (now (out .entry)) (now (out .exit)) r ⌝ }
+// The flat disk that a stream holds (not in the Rust); refusals 8, 11, 9, 10, 12. One pass looks at sums alone, then the sectors are decoded.
+fn denibblize_of(s: &[u8], out: &mut [u8], ed: Edition) -> Handed
+    ensures { λ r. ⌜ Denibblized ed (now (s .entry)) (now (out .entry)) (now (out .exit)) r ⌝ }
 {
-    let places = survey(s);
+    let places = survey(s, ed);
     if places.refusal != 0 {
         return refused(places.refusal);
     }
-    if out.len() < 143360 {
+    let size = 256 * (35 * (per_track(ed) as usize));
+    if out.len() < size {
         return refused(TRAY_SHORT);
     }
     let at = places.at;
-    put_image(s, &at, out);
-    accepted(143360)
+    put_image(s, &at, out, ed);
+    accepted(size)
+}
+
+// That of a stream of 16 sectors a track: 143,360 bytes.
+pub fn denibblize(s: &[u8], out: &mut [u8]) -> Handed
+    ensures { λ r. ⌜ Denibblized Sixteen (now (s .entry)) (now (out .entry)) (now (out .exit)) r ⌝ }
+{
+    denibblize_of(s, out, Edition::Sixteen)
+}
+
+// That of a stream of 13: 116,480 bytes.
+pub fn denibblize_13(s: &[u8], out: &mut [u8]) -> Handed
+    ensures { λ r. ⌜ Denibblized Thirteen (now (s .entry)) (now (out .entry)) (now (out .exit)) r ⌝ }
+{
+    denibblize_of(s, out, Edition::Thirteen)
 }
 
 // Puts an address in from place at; where it does not fit, out stays as it is.

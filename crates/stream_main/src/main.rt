@@ -90,7 +90,7 @@ fn show_sector(nibbles: &[u8], volume: u8, track: u8, sector: u8) {
 }
 
 fn show_pair(nibbles: &[u8], at: usize) {
-    let p = stream::parse_nib_sector(nibbles, at);
+    let p = stream::parse_nib_sector(nibbles, at, stream::Edition::Sixteen);
     refusal_line(b"pair: refusal", p.refusal);
     print_number(b"  volume", p.volume as u64);
     print_number(b", track", p.track as u64);

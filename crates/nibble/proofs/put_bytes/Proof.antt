@@ -1,23 +1,25 @@
-use Rattle.nibble.proofs.Decode.{Unpacking, byted}
+use Rattle.nibble.specs.Nibble.{byteFrom}
+use Rattle.nibble.proofs.Ranges.{Ranged}
+use Rattle.nibble.proofs.Decode.{byted}
 use Prim.Native.Nat.{_-_}
 use borrow.Author.Needs.{needs}
 use Rattle.nibble.proofs.put_bytes.Statement.{statement}
 use Rattle.nibble.proofs.put_bytes.Tie as tie
 
 abbrev Inv-loop : tie.InvT-loop
-Inv-loop vals out₀ i₀ out i = Unpacking vals out₀ out 0 86 i
+Inv-loop vals out₀ i₀ out i = Ranged (byteFrom vals) 256 out₀ out 0 86 i
 
 abbrev μ-loop : tie.MeasureT-loop
 μ-loop vals out₀ i₀ out i = 86 - i
 
 abbrev Inv-loop2 : tie.InvT-loop2
-Inv-loop2 vals out₀ i₀ out i = Unpacking vals out₀ out 86 172 i
+Inv-loop2 vals out₀ i₀ out i = Ranged (byteFrom vals) 256 out₀ out 86 172 i
 
 abbrev μ-loop2 : tie.MeasureT-loop2
 μ-loop2 vals out₀ i₀ out i = 172 - i
 
 abbrev Inv-loop3 : tie.InvT-loop3
-Inv-loop3 vals out₀ i₀ out i = Unpacking vals out₀ out 172 256 i
+Inv-loop3 vals out₀ i₀ out i = Ranged (byteFrom vals) 256 out₀ out 172 256 i
 
 abbrev μ-loop3 : tie.MeasureT-loop3
 μ-loop3 vals out₀ i₀ out i = 256 - i

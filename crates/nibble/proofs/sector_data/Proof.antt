@@ -6,8 +6,9 @@ pub sector-data-spec : {M : Type 1} → statement M
 sector-data-spec =
     tie.close
     (tie.spec
-    (λ c κs. search unpacks)  -- values-of-requires
-    (λ c. search unpacks)  -- slice-aggregate-put-bytes
-    (λ c κs. search unpacks)  -- put-bytes-requires
     (λ c. search unpacks)  -- returns
+    (λ c κs. search unpacks)  -- values-of-requires
+    (λ c κs. search unpacks)  -- put-bytes-requires
+    (λ c. search unpacks)  -- same-length
+    (λ c. search unpacks)  -- returns-2
     )

@@ -8,9 +8,11 @@ values-of-spec =
     (tie.spec
     (λ c κs. search lengthened)  -- reading-requires
     (λ c κs. search lengthened)  -- lengthened-requires
-    (λ c. search lengthened)  -- slice-aggregate-values-with
-    (λ c κs. search lengthened)  -- values-with-requires
+    (λ c. search lengthened)  -- slice-aggregate-put-values
+    (λ c. search lengthened)  -- slice-aggregate-put-values-2
+    (λ c κs. search lengthened)  -- put-values-requires
     (λ c. search lengthened)  -- returns
-    (λ c κs. search lengthened)  -- values-with-requires-2
+    (λ c. search lengthened)  -- slice-aggregate-put-values-3
+    (λ c κs. search lengthened)  -- put-values-requires-2
     (λ c. search lengthened)  -- returns-2
     )

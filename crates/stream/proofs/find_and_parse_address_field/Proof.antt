@@ -6,7 +6,7 @@ pub find-and-parse-address-field-spec : {M : Type 1} → statement M
 find-and-parse-address-field-spec =
     tie.close
     (tie.spec
-    (λ c κs. search addressed)  -- find-prologue-requires
+    (λ c κs. search addressed)  -- find-address-requires
     (λ c κs. search addressed)  -- no-address-requires
     (λ c. search addressed)  -- returns
     (λ c. search addressed)  -- sub-if2
@@ -18,6 +18,6 @@ find-and-parse-address-field-spec =
     (λ c κs. search addressed)  -- byte-4-and-4-requires-4
     (λ c κs. search addressed)  -- no-address-requires-3
     (λ c. search addressed)  -- returns-3
-    (λ c. search addressed)  -- add-t9
+    (λ c. search addressed)  -- add-t10
     (λ c. search addressed)  -- returns-4
     )

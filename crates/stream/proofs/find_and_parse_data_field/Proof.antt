@@ -8,8 +8,10 @@ find-and-parse-data-field-spec =
     (tie.spec
     (λ c κs. search fielded)  -- find-prologue-requires
     (λ c. search fielded)  -- returns
+    (λ c κs. search fielded)  -- nibbles-in-requires
+    (λ c. search fielded)  -- add-size
     (λ c. search fielded)  -- sub-if2
     (λ c. search fielded)  -- returns-2
-    (λ c. search fielded)  -- add-t5
+    (λ c. search fielded)  -- add-t7
     (λ c. search fielded)  -- returns-3
     )

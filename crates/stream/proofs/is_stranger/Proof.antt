@@ -7,5 +7,7 @@ is-stranger-spec = tie.close
     (tie.spec
     (λ c. search strangers)  -- returns
     (λ c. search strangers)  -- returns-2
+    (λ c κs. search strangers)  -- per-track-requires
+    (λ c. search strangers)  -- sub-result
     (λ c. search strangers)  -- returns-3
     )

@@ -1,14 +1,14 @@
-use Rattle.stream.proofs.Keyed.{Looking, looking}
-use Prim.Native.Nat.{_-_}
 use lib.ListN.{length}
+use Prim.Native.Nat.{_-_}
+use Rattle.stream.proofs.Keyed.{Looking, looking}
 use Rattle.stream.proofs.locate.Statement.{statement}
 use Rattle.stream.proofs.locate.Tie as tie
 
 abbrev Inv-loop : tie.InvT-loop
-Inv-loop s volume track sector i₀ good₀ at₀ i good at = Looking s volume track sector i good at
+Inv-loop s volume track sector ed i₀ good₀ at₀ i good at = Looking ed s volume track sector i good at
 
 abbrev μ-loop : tie.MeasureT-loop
-μ-loop s volume track sector i₀ good₀ at₀ i good at = length s - i
+μ-loop s volume track sector ed i₀ good₀ at₀ i good at = length s - i
 
 pub locate-spec : {M : Type 1} → statement M
 locate-spec =

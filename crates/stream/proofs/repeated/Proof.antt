@@ -1,13 +1,13 @@
-use Rattle.stream.proofs.Keyed.{Left, repeats}
 use Prim.Native.Nat.{_-_}
+use Rattle.stream.proofs.Keyed.{Left, repeats}
 use Rattle.stream.proofs.repeated.Statement.{statement}
 use Rattle.stream.proofs.repeated.Tie as tie
 
 abbrev Inv-loop : tie.InvT-loop
-Inv-loop s e p i₀ i = Left s e p i
+Inv-loop s e p ed i₀ i = Left ed s e p i
 
 abbrev μ-loop : tie.MeasureT-loop
-μ-loop s e p i₀ i = e - i
+μ-loop s e p ed i₀ i = e - i
 
 pub repeated-spec : {M : Type 1} → statement M
 repeated-spec =

@@ -1,14 +1,14 @@
-use Rattle.stream.proofs.Images.{Surveying, surveying}
-use Prim.Native.Nat.{_-_}
 use lib.ListN.{length}
+use Prim.Native.Nat.{_-_}
+use Rattle.stream.proofs.Images.{Surveying, surveying}
 use Rattle.stream.proofs.survey.Statement.{statement}
 use Rattle.stream.proofs.survey.Tie as tie
 
 abbrev Inv-loop : tie.InvT-loop
-Inv-loop s first i₀ good₀ at₀ i good at = Surveying s (first .volume) i good at
+Inv-loop s ed first i₀ good₀ at₀ i good at = Surveying ed s (first .volume) i good at
 
 abbrev μ-loop : tie.MeasureT-loop
-μ-loop s first i₀ good₀ at₀ i good at = length s - i
+μ-loop s ed first i₀ good₀ at₀ i good at = length s - i
 
 pub survey-spec : {M : Type 1} → statement M
 survey-spec =

@@ -1,14 +1,18 @@
 use Rattle.stream.proofs.Images.{imaged}
-use Rattle.stream.proofs.denibblize.Statement.{statement}
-use Rattle.stream.proofs.denibblize.Tie as tie
+use Rattle.stream.proofs.denibblize_of.Statement.{statement}
+use Rattle.stream.proofs.denibblize_of.Tie as tie
 
-pub denibblize-spec : {M : Type 1} → statement M
-denibblize-spec =
+pub denibblize-of-spec : {M : Type 1} → statement M
+denibblize-of-spec =
     tie.close
     (tie.spec
     (λ c κs. search imaged)  -- survey-requires
     (λ c κs. search imaged)  -- refused-requires
     (λ c. search imaged)  -- returns
+    (λ c κs. search imaged)  -- per-track-requires
+    (λ c. search imaged)  -- cast-size
+    (λ c. search imaged)  -- mul-size
+    (λ c. search imaged)  -- mul-size-2
     (λ c κs. search imaged)  -- refused-requires-2
     (λ c. search imaged)  -- returns-2
     (λ c κs. search imaged)  -- put-image-requires
