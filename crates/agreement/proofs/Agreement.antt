@@ -11,47 +11,48 @@ use Rattle.lists.specs.Every.{Every}
 use Rattle.outcome.specs.declared.Handed.{Handed}
 use Rattle.outcome.specs.Outcome.{given, number, handed, acceptedWith, Hands}
 use Rattle.outcome.proofs.Outcome.{handed-fits, hands-given, hands-left}
-use Rattle.files.specs.Contents.{Contents, Proper, contents}
+use Rattle.files.specs.Contents.{Contents, Proper}
 use Rattle.files.proofs.Proper.{all-proper}
-use Rattle.stream.specs.declared.Edition.the-variants.{Sixteen}
-use Rattle.stream.specs.Editions.{perTrack}
+use Rattle.disk.specs.Disk.{perOf}
+use Rattle.stream.specs.declared.Edition.{Edition}
 use Rattle.stream.specs.Stream.{image}
 use Rattle.stream.proofs.Sizes.{sized-image}
 use Rattle.files.specs.Survey.{blocks}
 use Rattle.archive.specs.Archive.{archive, archiveOf, check}
 use Rattle.archive.proofs.Blocks.{length-archive, proper-short}
 use Rattle.archive.proofs.Archive.{archive-injective, writes-archive, check-passes}
-use Rattle.agreement.specs.Agreement.{Disk, flat, nibbles, OfBytes, contentsOf, EqualContents, ImageOf, Agreement}
+use Rattle.agreement.specs.Agreement.{Disk, flat, nibbles, OfBytes, contentsIn, contentsOf, EqualContents, ImageOf, Agreement}
 
 -- where denibblize gave no number, what it wrote is the stream's image
-pub wrote-image : (s before after e : List ℕ) (r : Handed) → Hands (image Sixteen s) before after r → r .refusal ≡ 0 → e ≡ take 143360 after → image Sixteen s ≡ given e
-unfolding perTrack
-wrote-image s before after e r h z t =
+pub wrote-image : (ed : Edition) (s before after e : List ℕ) (r : Handed) → Hands (image ed s) before after r → r .refusal ≡ 0 → e ≡ take (r .length) after → image ed s ≡ given e
+wrote-image ed s before after e r h z t =
     let g = hands-given h z in
     let w : List ℕ = g .0 in
-    let f : take 143360 after ≡ w = ap (take 143360) (g .3) ∙ take-at w (drop (length w) before) 143360 (sized-image Sixteen s w (g .1) .0) in
+    let a : r ≡ acceptedWith (length w) = h .answer ∙ rw (handed-fits (image ed s) before (g .1) (g .2)) refl in
+    let l : length w ≡ r .length = sym (ap (λ (x : Handed). x .length) a) in
+    let f : take (r .length) after ≡ w = ap (take (r .length)) (g .3) ∙ take-at w (drop (length w) before) (r .length) l in
     g .1 ∙ ap given (sym (t ∙ f))
 
 -- what writer and checker are handed has the disk's contents ..
-same-contents : (a : Disk) (d : List ℕ) → ImageOf a d → contentsOf a ≡ contents 16 d
-same-contents (flat x) d h = ap (contents 16) h
-same-contents (nibbles s) d h = rw (wrote-image s (h .0) (h .1) d (h .2) (h .3) (h .4) (h .5)) refl
+same-contents : (a : Disk) (d : List ℕ) → ImageOf a d → contentsOf a ≡ contentsIn d
+same-contents (flat x) d h = ap contentsIn h
+same-contents (nibbles ed s) d h = rw (wrote-image ed s (h .0) (h .1) d (h .2) (h .3) (h .4) (h .5)) refl
 
 -- .. and is bytes
 image-bytes : (a : Disk) (d : List ℕ) → OfBytes a → ImageOf a d → Bytes d
 image-bytes (flat x) d b h = rw h at b
-image-bytes (nibbles s) d b h = sized-image Sixteen s d (wrote-image s (h .0) (h .1) d (h .2) (h .3) (h .4) (h .5)) .1
+image-bytes (nibbles ed s) d b h = sized-image ed s d (wrote-image ed s (h .0) (h .1) d (h .2) (h .3) (h .4) (h .5)) .1
 
 -- the files of a disk of bytes are proper
 proper : (a : Disk) (d : List ℕ) → OfBytes a → ImageOf a d → (c : Contents) → contentsOf a ≡ given c → Every Proper (c .files)
-proper a d b h c e = all-proper 16 d (image-bytes a d b h) c (sym (same-contents a d h) ∙ e)
+proper a d b h c e = all-proper (perOf d) d (image-bytes a d b h) c (sym (same-contents a d h) ∙ e)
 
 -- passed: these are the archive of the disk's contents
 passed-is : (a : Disk) (d w : List ℕ) → ImageOf a d
-    → (number (check 16 d w) ≡ 0) ↔ ((c : Contents) × (contentsOf a ≡ given c) × (blocks c ≤ 4096) × (w ≡ archive c))
+    → (number (check (perOf d) d w) ≡ 0) ↔ ((c : Contents) × (contentsOf a ≡ given c) × (blocks c ≤ 4096) × (w ≡ archive c))
 passed-is a d w h = (
-  (λ k. let i = check-passes 16 d w .0 k in (i .0, same-contents a d h ∙ i .1, i .2, i .3)),
-  λ i. check-passes 16 d w .1 (i .0, sym (same-contents a d h) ∙ i .1, i .2, i .3),
+  (λ k. let i = check-passes (perOf d) d w .0 k in (i .0, same-contents a d h ∙ i .1, i .2, i .3)),
+  λ i. check-passes (perOf d) d w .1 (i .0, sym (same-contents a d h) ∙ i .1, i .2, i .3),
 )
 
 -- two disks with one archive have equal contents
@@ -74,8 +75,8 @@ agreement =
           );
       own = λ a o d h c p l before after r room k.
           let long : length (archive c) ≡ 256 * blocks c = length-archive c (proper-short (proper a d o h c p)) in
-          let w = writes-archive 16 d (archive c) .1 (c, sym (same-contents a d h) ∙ p, l, refl) in
-          let g : handed (archiveOf 16 d) before ≡ given (archive c) = handed-fits (archiveOf 16 d) before w (omega arith) in
+          let w = writes-archive (perOf d) d (archive c) .1 (c, sym (same-contents a d h) ∙ p, l, refl) in
+          let g : handed (archiveOf (perOf d) d) before ≡ given (archive c) = handed-fits (archiveOf (perOf d) d) before w (omega arith) in
           let n : r ≡ acceptedWith (length (archive c)) = rw g at (k .answer) in
           let size : r .length ≡ length (archive c) = ap (λ (x : Handed). x .length) n in
           let f : take (r .length) after ≡ archive c =

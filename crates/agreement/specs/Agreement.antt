@@ -1,5 +1,5 @@
--- Demand 3, as one claim about the calls' arguments and answers, for all pairings of flat and nibbles: document 01, "Return", its last lines.
--- `Denibblized`, `Wrote` and `Checked` are the promises of `stream::denibblize`, `writer::write_archive` and `writer::check_archive`, word for word: the
+-- Demand 3, as one claim about the calls' arguments and answers, for all pairings of flat and nibbles and of the two editions: document 01, "Return", its last lines, and Req 12.
+-- `Denibblized`, `Wrote` and `Checked` are the promises of `stream::denibblize` (at Sixteen) and `stream::denibblize_13` (at Thirteen), `writer::write_archive` and `writer::check_archive`, word for word: the
 -- claim speaks of what these were handed, of what they answered and of what they left in the space lent to them, and of nothing else.
 use mathlib.Core.Path.{_≡_}
 use mathlib.Core.Logic.{_↔_}
@@ -12,23 +12,28 @@ use Rattle.outcome.specs.Outcome.{Outcome, given, _>>=_}
 use Rattle.files.specs.Contents.{Contents, contents}
 use Rattle.files.specs.Survey.{blocks}
 use Rattle.archive.specs.Archive.{Wrote, Checked}
-use Rattle.stream.specs.declared.Edition.the-variants.{Sixteen}
+use Rattle.disk.specs.Disk.{perOf}
+use Rattle.stream.specs.declared.Edition.{Edition}
 use Rattle.stream.specs.Stream.{image, Denibblized}
 
--- a disk as it arrives: flat, or as nibbles
+-- A disk as it arrives: flat, of either size, or as nibbles of an edition. A stream that unrolls by both codings stands for two disks, one for each edition.
 pub data Disk : Type 0 where
   flat : List ℕ → Disk
-  nibbles : List ℕ → Disk
+  nibbles : Edition → List ℕ → Disk
 
 -- what arrives is bytes
 abbrev pub OfBytes : Disk → Type 0
 OfBytes (flat d) = Bytes d
-OfBytes (nibbles s) = Bytes s
+OfBytes (nibbles ed s) = Bytes s
+
+-- the contents of a flat disk, which has as many sectors a track as its size says
+abbrev pub contentsIn : List ℕ → Outcome Contents
+contentsIn d = contents (perOf d) d
 
 -- its contents (01: load): a nibble disk is judged by its unrolled image
 abbrev pub contentsOf : Disk → Outcome Contents
-contentsOf (flat d) = contents 16 d
-contentsOf (nibbles s) = image Sixteen s >>= contents 16
+contentsOf (flat d) = contentsIn d
+contentsOf (nibbles ed s) = image ed s >>= contentsIn
 
 -- both disks have contents, and these are equal
 abbrev pub EqualContents : Disk → Disk → Type 0
@@ -37,7 +42,7 @@ EqualContents a b = (c : Contents) × (contentsOf a ≡ given c) × (contentsOf 
 -- e is what writer and checker are handed for a disk: the flat disk itself, or the bytes that a call of denibblize wrote
 abbrev pub ImageOf : Disk → List ℕ → Type 0
 ImageOf (flat d) e = d ≡ e
-ImageOf (nibbles s) e = (before after : List ℕ) × (r : Handed) × Denibblized Sixteen s before after r × (r .refusal ≡ 0) × (e ≡ take 143360 after)
+ImageOf (nibbles ed s) e = (before after : List ℕ) × (r : Handed) × Denibblized ed s before after r × (r .refusal ≡ 0) × (e ≡ take (r .length) after)
 
 -- demand 3
 pub record Agreement : Type 0 where

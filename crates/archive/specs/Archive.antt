@@ -11,6 +11,7 @@ use Rattle.lists.specs.Same.{same}
 use Rattle.lists.specs.Words.{le2, le3}
 use Rattle.outcome.specs.declared.Handed.{Handed}
 use Rattle.outcome.specs.Outcome.{Outcome, given, _>>=_, _>>_, require, number, Hands}
+use Rattle.disk.specs.Disk.{perOf}
 use Rattle.files.specs.Contents.{File, Contents, contents}
 use Rattle.files.specs.Survey.{dataBlocks, blocks}
 
@@ -60,8 +61,8 @@ check n d a = archiveOf n d >>= λ w. require (same w a) NotItsReturn
 
 -- the promise of the writer: of the disk d, with space from `before` to `after`, answered r
 abbrev pub Wrote : List ℕ → (before after : List ℕ) → Handed → Type 0
-Wrote d before after r = Hands (archiveOf 16 d) before after r
+Wrote d before after r = Hands (archiveOf (perOf d) d) before after r
 
 -- the promise of the checker: of the disk d and the bytes a, answered r
 abbrev pub Checked : (d a : List ℕ) → ℕ → Type 0
-Checked d a r = r ≡ number (check 16 d a)
+Checked d a r = r ≡ number (check (perOf d) d a)

@@ -16,7 +16,7 @@ use Rattle.outcome.specs.Refusal.{code}
 use Rattle.outcome.specs.Outcome.{Outcome, refused, given, _>>=_, handed, refusedWith, acceptedWith, leftBy}
 use Rattle.outcome.proofs.Outcome.{code-pos, hands-refused, hands-short, hands-over, handed-fits}
 use Rattle.disk.specs.declared.Place.{Place}
-use Rattle.disk.specs.Disk.{start}
+use Rattle.disk.specs.Disk.{perOf, start}
 use Rattle.catalog.specs.declared.Pages.{Pages}
 use Rattle.catalog.specs.declared.Listing.{Listing}
 use Rattle.catalog.specs.Catalog.{Entry, live, entryAt, entriesOf, firstPage, pages, catalog}
@@ -72,64 +72,68 @@ module _ (n : ℕ) (d : List ℕ) where
 
 -- ---- the call: v is what was counted
 -- it refused ..
-found-refused : (d : List ℕ) (v : Pages) (o : Outcome (List Place)) → v ≡ counted (o >>= λ ps. given (countsOf 16 d ps)) → (v .refusal ≡ 0 → ⊥)
+found-refused : (n : ℕ) (d : List ℕ) (v : Pages) (o : Outcome (List Place)) → v ≡ counted (o >>= λ ps. given (countsOf n d ps)) → (v .refusal ≡ 0 → ⊥)
     → (r : Refusal) × (o ≡ refused r) × (v .refusal ≡ code r)
-found-refused d v (refused r) e h = (r, refl, rw e refl)
-found-refused d v (given ps) e h = absurd (h (rw e refl))
+found-refused n d v (refused r) e h = (r, refl, rw e refl)
+found-refused n d v (given ps) e h = absurd (h (rw e refl))
 
 -- .. or did not
-found-given : (d : List ℕ) (v : Pages) (o : Outcome (List Place)) → v ≡ counted (o >>= λ ps. given (countsOf 16 d ps)) → v .refusal ≡ 0
-    → (ps : List Place) × (o ≡ given ps) × (v ≡ countsOf 16 d ps)
-found-given d v (refused r) e z = absurd (omega (arith, code-pos r, ap (λ (x : Pages). x .refusal) e))
-found-given d v (given ps) e z = (ps, refl, e)
+found-given : (n : ℕ) (d : List ℕ) (v : Pages) (o : Outcome (List Place)) → v ≡ counted (o >>= λ ps. given (countsOf n d ps)) → v .refusal ≡ 0
+    → (ps : List Place) × (o ≡ given ps) × (v ≡ countsOf n d ps)
+found-given n d v (refused r) e z = absurd (omega (arith, code-pos r, ap (λ (x : Pages). x .refusal) e))
+found-given n d v (given ps) e z = (ps, refl, e)
 
 -- the pages that were counted
-pub counted-given : (d : List ℕ) (v : Pages) → v ≡ counted (pagesCounted 16 d) → v .refusal ≡ 0
-    → (ps : List Place) × (pages 16 d ≡ given ps) × (v ≡ countsOf 16 d ps)
+pub counted-given : (n : ℕ) (d : List ℕ) (v : Pages) → v ≡ counted (pagesCounted n d) → v .refusal ≡ 0
+    → (ps : List Place) × (pages n d ≡ given ps) × (v ≡ countsOf n d ps)
 unfolding pagesCounted
-counted-given d v e z = found-given d v (pages 16 d) e z
+counted-given n d v e z = found-given n d v (pages n d) e z
 
-module _ (d : List ℕ) (v : Pages) (e : v ≡ counted (pagesCounted 16 d)) where
-  pub call-refused : (o : List ℕ) (r : Listing) → (v .refusal ≡ 0 → ⊥) → r ≡ noListing (v .refusal) → Catalogued 16 d o o r
+module _ (n : ℕ) (d : List ℕ) (v : Pages) (e : v ≡ counted (pagesCounted n d)) where
+  pub call-refused : (o : List ℕ) (r : Listing) → (v .refusal ≡ 0 → ⊥) → r ≡ noListing (v .refusal) → Catalogued n d o o r
   unfolding pagesCounted
   call-refused o r h q =
-      let t = found-refused d v (pages 16 d) e h in
-      let l = listed-refused 16 d (t .0) (t .1) in
+      let t = found-refused n d v (pages n d) e h in
+      let l = listed-refused n d (t .0) (t .1) in
       let k : r .handed ≡ refusedWith (code (t .0)) = ap (λ (x : Listing). x .handed) q ∙ ap refusedWith (t .2) in
-      record { hands = hands-refused (listed 16 d) o (t .0) l (r .handed) k; pages = rw (q, l) refl }
+      record { hands = hands-refused (listed n d) o (t .0) l (r .handed) k; pages = rw (q, l) refl }
 
   module _ (z : v .refusal ≡ 0) (o : List ℕ) where
     -- the bytes are as many as were counted
-    size : length (flatMap (pageBytes 16 d) (counted-given d v e z .0)) ≡ 37 * v .entries
-    size = let t = counted-given d v e z in length-listed 16 d (t .0) ∙ sym (ap (λ (x : Pages). 37 * x .entries) (t .2))
+    size : length (flatMap (pageBytes n d) (counted-given n d v e z .0)) ≡ 37 * v .entries
+    size = let t = counted-given n d v e z in length-listed n d (t .0) ∙ sym (ap (λ (x : Pages). 37 * x .entries) (t .2))
 
-    pub call-short : (r : Listing) → length o < 37 * v .entries → r ≡ noListing 12 → Catalogued 16 d o o r
+    pub call-short : (r : Listing) → length o < 37 * v .entries → r ≡ noListing 12 → Catalogued n d o o r
     call-short r l q =
-        let t = counted-given d v e z in
-        let w : List ℕ = flatMap (pageBytes 16 d) (t .0) in
-        let g : listed 16 d ≡ given w = listed-given 16 d (t .0) (t .1) in
+        let t = counted-given n d v e z in
+        let w : List ℕ = flatMap (pageBytes n d) (t .0) in
+        let g : listed n d ≡ given w = listed-given n d (t .0) (t .1) in
         let m : length o < length w = rw size l in
-        record { hands = hands-short (listed 16 d) o w g m (r .handed) (rw q refl); pages = rw (q, g, lt-leb _ _ m) refl }
+        record { hands = hands-short (listed n d) o w g m (r .handed) (rw q refl); pages = rw (q, g, lt-leb _ _ m) refl }
 
-    pub call-ready : (p : Place) → p ≡ firstPage 16 d → 37 * v .entries ≤ length o → Ready (walkListed 16 d p) o
+    pub call-ready : (p : Place) → p ≡ firstPage n d → 37 * v .entries ≤ length o → Ready (walkListed n d p) o
     call-ready p a l =
-        let t = counted-given d v e z in
-        rw a (record { whole = flatMap (pageBytes 16 d) (t .0); is = walk-given 16 d (t .0) (t .1); fits = rw size l })
+        let t = counted-given n d v e z in
+        rw a (record { whole = flatMap (pageBytes n d) (t .0); is = walk-given n d (t .0) (t .1); fits = rw size l })
 
-    pub call-done : (p : Place) (o′ : List ℕ) (h : Handed) → p ≡ firstPage 16 d → 37 * v .entries ≤ length o → o′ ≡ leftBy (walkListed 16 d p) o
-        → h ≡ acceptedWith (37 * v .entries) → Catalogued 16 d o o′ (record { handed = h; pages = v .count })
+    pub call-done : (p : Place) (o′ : List ℕ) (h : Handed) → p ≡ firstPage n d → 37 * v .entries ≤ length o → o′ ≡ leftBy (walkListed n d p) o
+        → h ≡ acceptedWith (37 * v .entries) → Catalogued n d o o′ (record { handed = h; pages = v .count })
     call-done p o′ h a l u k =
-        let t = counted-given d v e z in
-        let w : List ℕ = flatMap (pageBytes 16 d) (t .0) in
-        let g : listed 16 d ≡ given w = listed-given 16 d (t .0) (t .1) in
+        let t = counted-given n d v e z in
+        let w : List ℕ = flatMap (pageBytes n d) (t .0) in
+        let g : listed n d ≡ given w = listed-given n d (t .0) (t .1) in
         let m : length w ≤ length o = rw size l in
-        let x : o′ ≡ w ++ drop (length w) o = u ∙ rw (a, walk-given 16 d (t .0) (t .1)) refl in
+        let x : o′ ≡ w ++ drop (length w) o = u ∙ rw (a, walk-given n d (t .0) (t .1)) refl in
         record {
-          hands = hands-over (listed 16 d) o o′ w g m x h (rw size k);
-          pages = ap (λ (y : Pages). y .count) (t .2) ∙ sym (rw (handed-fits (listed 16 d) o g m, t .1) refl);
+          hands = hands-over (listed n d) o o′ w g m x h (rw size k);
+          pages = ap (λ (y : Pages). y .count) (t .2) ∙ sym (rw (handed-fits (listed n d) o g m, t .1) refl);
         }
 
 pub no-listing-is : (k : ℕ) (h : Handed) → h ≡ refusedWith k → record { handed = h; pages = 0 } ≡ noListing k
 no-listing-is k h e = rw e refl
 
-pub ruleset calls = (call-refused, call-short, call-ready, call-done, no-listing-is, needs)
+-- by the disk's own size
+pub call-at : (d o o′ : List ℕ) (r : Listing) (n : ℕ) → n ≡ perOf d → Catalogued n d o o′ r → Catalogued (perOf d) d o o′ r
+call-at d o o′ r n e q = rw e at q
+
+pub ruleset calls = (call-at, call-refused, call-short, call-ready, call-done, no-listing-is, needs)

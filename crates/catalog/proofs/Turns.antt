@@ -21,7 +21,7 @@ use Rattle.outcome.proofs.Outcome.{number-0}
 use Rattle.disk.specs.declared.Place.{Place}
 use Rattle.disk.specs.Vtoc.{readable}
 use Rattle.disk.specs.Vtoc.{vtoc}
-use Rattle.disk.specs.Disk.{place, linkOf, byteOf, start, onDisk, sectors}
+use Rattle.disk.specs.Disk.{perOf, place, linkOf, byteOf, start, onDisk, sectors}
 use Rattle.disk.specs.Chain.{walk}
 use Rattle.disk.proofs.Steps.{made, rest, rest-start, rest-full, rest-off, rest-bad, rest-end, rest-more}
 use Rattle.catalog.specs.Catalog.{Entry, knownType, kindOf, letter, validFile, live, entryFrom, entryAt, entriesOf, plainNames, lastPage, nextPage, soundPage, firstPage, pages}
@@ -276,18 +276,22 @@ module _ (n : ℕ) (d : List ℕ) where
 pub ruleset walks = (walk-none, walk-ring, walk-off, walk-bad, walk-last, walk-more, not-true, not-false, needs)
 
 -- ---- the catalog
-module _ (d : List ℕ) (k : ℕ) (e : k ≡ number (readable 16 d)) (v : Pages) where
-  pub pages-refused : (k ≡ 0 → ⊥) → v ≡ noPages k → v ≡ counted (pagesCounted 16 d)
+module _ (n : ℕ) (d : List ℕ) (k : ℕ) (e : k ≡ number (readable n d)) (v : Pages) where
+  pub pages-refused : (k ≡ 0 → ⊥) → v ≡ noPages k → v ≡ counted (pagesCounted n d)
   unfolding pagesCounted pages
-  pages-refused h w = w ∙ go (readable 16 d) e
+  pages-refused h w = w ∙ go (readable n d) e
     where
       go : (o : Outcome (Unit {0})) → k ≡ number o
-          → noPages k ≡ counted ((o >> walk 16 (soundPage 16 d) (nextPage 16 d) (sectors 16 + 1) [] (firstPage 16 d)) >>= λ ps. given (countsOf 16 d ps))
+          → noPages k ≡ counted ((o >> walk n (soundPage n d) (nextPage n d) (sectors n + 1) [] (firstPage n d)) >>= λ ps. given (countsOf n d ps))
       go (refused r) q = rw q refl
       go (given u) q = absurd (h q)
 
-  pub pages-walked : k ≡ 0 → (p : Place) → p ≡ firstPage 16 d → v ≡ counted (walked 16 d p) → v ≡ counted (pagesCounted 16 d)
+  pub pages-walked : k ≡ 0 → (p : Place) → p ≡ firstPage n d → v ≡ counted (walked n d p) → v ≡ counted (pagesCounted n d)
   unfolding pagesCounted pages walked
-  pages-walked z p a w = let o = number-0 (readable 16 d) (sym e ∙ z) in w ∙ rw (a, pagesCounted, o .1) refl
+  pages-walked z p a w = let o = number-0 (readable n d) (sym e ∙ z) in w ∙ rw (a, pagesCounted, o .1) refl
 
-pub ruleset catalogs = (pages-refused, pages-walked, needs)
+-- by the disk's own size
+pub pages-at : (d : List ℕ) (v : Pages) (n : ℕ) → n ≡ perOf d → v ≡ counted (pagesCounted n d) → v ≡ counted (pagesCounted (perOf d) d)
+pages-at d v n e q = rw e at q
+
+pub ruleset catalogs = (pages-refused, pages-walked, pages-at, needs)

@@ -5,7 +5,7 @@ ghost use Prim.Native.Nat.{ℕ, _+_, _*_, _<_, _≤_};
 ghost use lib.ListN.{length, take, drop};
 ghost use Rattle.lists.specs.Select.{among};
 ghost use Rattle.outcome.specs.Outcome.{leftBy};
-ghost use Rattle.disk.specs.Disk.{start};
+ghost use Rattle.disk.specs.Disk.{perOf, start};
 ghost use Rattle.catalog.specs.Catalog.{knownType, kindOf, letter, validFile, live, entryFrom, entriesOf, plainNames, lastPage, firstPage};
 ghost use Rattle.catalog.specs.Pages.{plainEntry, noPages, counted, walked, pagesCounted};
 ghost use Rattle.catalog.specs.Listing.{ShownIs, nameOf, fileEntry, blankEntry, bytes37, liveBytes, pageBytes, Wrote, Fronts, Ready, walkListed, noListing, Catalogued};
@@ -17,6 +17,7 @@ use disk::chain_budget;
 use disk::link_of;
 use disk::on_disk;
 use disk::sector_start;
+use disk::sectors_of;
 use disk::table_refusal;
 use lists::byte_at;
 use lists::copy_at;
@@ -248,15 +249,22 @@ pub fn first_page(disk: &[u8], per: u8) -> Place
     }
 }
 
-// The pages and live entries of a flat disk's catalog; refusals 1, 2, then page by page 3, 4, 6.
-pub fn count_pages(disk: &[u8]) -> Pages
-    ensures { λ r. ⌜ r ≡ counted (pagesCounted 16 (now (disk .entry))) ⌝ }
+// The pages and live entries of the catalog of a disk of `per` sectors a track; refusals 1, 2, then page by page 3, 4, 6.
+fn count_pages_of(disk: &[u8], per: u8) -> Pages
+    ensures { λ r. ⌜ r ≡ counted (pagesCounted per (now (disk .entry))) ⌝ }
 {
-    let number = table_refusal(disk, 16);
+    let number = table_refusal(disk, per);
     if number != 0 {
         return no_pages(number);
     }
-    count_from(disk, 16, first_page(disk, 16))
+    count_from(disk, per, first_page(disk, per))
+}
+
+// The same of a flat disk.
+pub fn count_pages(disk: &[u8]) -> Pages
+    ensures { λ r. ⌜ r ≡ counted (pagesCounted (perOf (now (disk .entry))) (now (disk .entry))) ⌝ }
+{
+    count_pages_of(disk, sectors_of(disk))
 }
 
 // How many name bytes are looked at: 30, or as many as there are.
@@ -446,11 +454,11 @@ fn no_listing(number: u8) -> Listing
     }
 }
 
-// The catalog of a flat disk, 37 bytes an entry, with the number of pages followed; refusals 1, 2, then page by page 3, 4, 6, and 12.
-pub fn parse_catalogs(disk: &[u8], out: &mut [u8]) -> Listing
-    ensures { λ r. ⌜ Catalogued 16 (now (disk .entry)) (now (out .entry)) (now (out .exit)) r ⌝ }
+// The catalog of a disk of `per` sectors a track, 37 bytes an entry, with the number of pages followed; refusals 1, 2, then page by page 3, 4, 6, and 12.
+fn catalogs_of(disk: &[u8], per: u8, out: &mut [u8]) -> Listing
+    ensures { λ r. ⌜ Catalogued per (now (disk .entry)) (now (out .entry)) (now (out .exit)) r ⌝ }
 {
-    let found = count_pages(disk);
+    let found = count_pages_of(disk, per);
     if found.refusal != 0 {
         return no_listing(found.refusal);
     }
@@ -458,9 +466,16 @@ pub fn parse_catalogs(disk: &[u8], out: &mut [u8]) -> Listing
     if out.len() < size {
         return no_listing(TRAY_SHORT);
     }
-    write_pages(disk, 16, first_page(disk, 16), out);
+    write_pages(disk, per, first_page(disk, per), out);
     Listing {
         handed: accepted(size),
         pages: found.count,
     }
+}
+
+// The same of a flat disk.
+pub fn parse_catalogs(disk: &[u8], out: &mut [u8]) -> Listing
+    ensures { λ r. ⌜ Catalogued (perOf (now (disk .entry))) (now (disk .entry)) (now (out .entry)) (now (out .exit)) r ⌝ }
+{
+    catalogs_of(disk, sectors_of(disk), out)
 }

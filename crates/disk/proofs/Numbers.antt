@@ -2,8 +2,8 @@
 use mathlib.Core.Path.{_≡_, refl, sym, _∙_}
 use mathlib.Core.Bool.{Bool, true, false}
 use mathlib.Core.List.{List}
-use Prim.Native.Nat.{ℕ, suc, _+_, _*_, _-_, _<_, _≤_}
-use native.Mathlib.Nat.{mul-le-mul}
+use Prim.Native.Nat.{ℕ, suc, _+_, _*_, _-_, _/_, _<_, _≤_}
+use native.Mathlib.Nat.{mul-le-mul, div-le-self}
 use native.Mathlib.Numerals.{add-one}
 use native.Mathlib.Omega.{arith}
 use lib.Count.{ones, ones-le}
@@ -16,13 +16,13 @@ use mir.Facts.{toZ-pos, toZ-neg, toZ-ofZ}
 use borrow.Author.Tests.{lt-ltb, le-ltb, eq-eqb, ne-eqb}
 use borrow.Author.Needs.{needs}
 use Rattle.disk.specs.declared.Place.{Place}
-use Rattle.disk.specs.Vtoc.{readable, tabled, percent, freeBelow, oneOf, validTable, vtoc, signed, freeIn, blank, tableOf, parsed}
-use Rattle.disk.specs.Disk.{place, start, byteOf, linkOf}
+use Rattle.disk.specs.Vtoc.{readable, tabled, percent, freeBelow, oneOf, validTable, spare, vtoc, signed, freeIn, blank, tableOf, parsed}
+use Rattle.disk.specs.Disk.{perOf, place, start, byteOf, linkOf}
 use Rattle.disk.specs.declared.VolumeTableOfContents.{VolumeTableOfContents}
 use Rattle.outcome.specs.Refusal.{code}
 use Rattle.outcome.specs.Outcome.{Outcome, refused, given, number}
 use Rattle.outcome.proofs.Outcome.{number-0}
-use Rattle.disk.proofs.Places.{off-size, no-table, is-readable}
+use Rattle.disk.proofs.Places.{off-size, no-table, is-readable, readable-some}
 
 -- a product of two bytes
 pub bytes-times : (a b : ℕ) → a < 256 → b < 256 → a * b ≤ 65025
@@ -51,8 +51,27 @@ link-read d n t s p a b = rw (a, b) refl
 pub ruleset bytes = (byte-read, link-read, needs)
 
 -- no more than 16 of two bytes' bits are set
-pub ones-small : (low high : ℕ) → low < 256 → high < 256 → ones (low + 256 * high) ≤ 16
-ones-small low high a b = ones-le 16 (low + 256 * high) (omega arith)
+pub ones-small : (high low m : ℕ) → high < 256 → low < 256 → 0 < m → ones ((256 * high + low) / m) ≤ 16
+ones-small high low m a b h = ones-le 16 ((256 * high + low) / m) (omega (arith, div-le-self (256 * high + low) m))
+
+-- ---- the sectors of a track, and the bits below its map
+pub per-13 : (d : List ℕ) → length d ≡ 116480 → 13 ≡ perOf d
+unfolding perOf
+per-13 d h = rw (eq-eqb (length d) 116480 h) refl
+
+pub per-16 : (d : List ℕ) → (length d ≡ 116480 → ⊥) → 16 ≡ perOf d
+unfolding perOf
+per-16 d h = rw (ne-eqb (length d) 116480 h) refl
+
+pub spare-13 : (n : ℕ) → n ≡ 13 → 8 ≡ spare n
+unfolding spare
+spare-13 n h = rw (eq-eqb n 13 h) refl
+
+pub spare-16 : (n : ℕ) → (n ≡ 13 → ⊥) → 1 ≡ spare n
+unfolding spare
+spare-16 n h = rw (ne-eqb n 13 h) refl
+
+pub ruleset pers = (per-13, per-16, spare-13, spare-16, needs)
 
 -- a count of free sectors, k tracks on
 pub record Counting (n : ℕ) (d : List ℕ) (sum k : ℕ) : Type 0 where
@@ -92,13 +111,13 @@ module _ (x a b : ℕ) where
   second-of h = rw (ne-eqb x a h) refl
 
 module _ (t s : ℕ) (r : Bool) (e : r ≡ oneOf t 35 40) where
-  pub tracks-good : r ≡ true → (q : Bool) → q ≡ oneOf s 13 16 → q ≡ validTable t s
+  pub tracks-good : r ≡ true → (n : ℕ) (q : Bool) → q ≡ oneOf s 13 n → q ≡ validTable n t s
   unfolding validTable
-  tracks-good h q k = rw (k, ← e, h) refl
+  tracks-good h n q k = rw (k, ← e, h) refl
 
-  pub tracks-bad : r ≡ false → false ≡ validTable t s
+  pub tracks-bad : r ≡ false → (n : ℕ) → false ≡ validTable n t s
   unfolding validTable
-  tracks-bad h = rw (← e, h) refl
+  tracks-bad h n = rw (← e, h) refl
 
 pub ruleset checks = (first-of, second-of, tracks-good, tracks-bad, needs)
 
@@ -107,7 +126,7 @@ module _ (n : ℕ) (d : List ℕ) where
   pub size-wrong : (length d ≡ 256 * (35 * n) → ⊥) → 1 ≡ number (readable n d)
   size-wrong h = rw (off-size n d h) refl
 
-  module _ (h : length d ≡ 256 * (35 * n)) (a b : ℕ) (l : a ≡ byteOf n d vtoc 52) (m : b ≡ byteOf n d vtoc 53) (q : Bool) (e : q ≡ validTable a b) where
+  module _ (h : length d ≡ 256 * (35 * n)) (a b : ℕ) (l : a ≡ byteOf n d vtoc 52) (m : b ≡ byteOf n d vtoc 53) (q : Bool) (e : q ≡ validTable n a b) where
     is-tabled : tabled n d ≡ q
     unfolding tabled
     is-tabled = rw (← l, ← m) (sym e)
@@ -119,18 +138,22 @@ module _ (n : ℕ) (d : List ℕ) where
     table-bad z = rw (no-table n d h (is-tabled ∙ z)) refl
 
 -- the answer by its number
-module _ (d : List ℕ) (v : VolumeTableOfContents) (k : ℕ) (e : k ≡ number (readable 16 d)) where
-  pub table-none : (k ≡ 0 → ⊥) → v ≡ blank k → v ≡ parsed 16 d
+module _ (n : ℕ) (d : List ℕ) (v : VolumeTableOfContents) (k : ℕ) (e : k ≡ number (readable n d)) where
+  pub table-none : (k ≡ 0 → ⊥) → v ≡ blank k → v ≡ parsed n d
   unfolding parsed
-  table-none h b = go (readable 16 d) e
+  table-none h b = go (readable n d) e
     where
-      go : (o : Outcome (Unit {0})) → k ≡ number o → v ≡ elim o [ refused r ↦ blank (code r) | given u ↦ tableOf 16 d ]
+      go : (o : Outcome (Unit {0})) → k ≡ number o → v ≡ elim o [ refused r ↦ blank (code r) | given u ↦ tableOf n d ]
       go (refused r) q = b ∙ rw q refl
       go (given u) q = absurd (h q)
 
-  pub table-read : k ≡ 0 → v ≡ tableOf 16 d → v ≡ parsed 16 d
+  pub table-read : k ≡ 0 → v ≡ tableOf n d → v ≡ parsed n d
   unfolding parsed
-  table-read z b = let o = number-0 (readable 16 d) (sym e ∙ z) in rw (parsed, o .1) b
+  table-read z b = let o = number-0 (readable n d) (sym e ∙ z) in rw (parsed, o .1) b
+
+-- a table is read only where a track has sectors
+pub table-some : (n : ℕ) (d : List ℕ) (k : ℕ) → k ≡ number (readable n d) → k ≡ 0 → 0 < n
+table-some n d k e z = readable-some n d (number-0 (readable n d) (sym e ∙ z) .1)
 
 -- the fields, as they were read one by one
 pub table-is : (n : ℕ) (d : List ℕ) (a b r v m l x t s y w f u p : ℕ) (z : ℤ)
@@ -166,4 +189,8 @@ unfolding tableOf
 table-is n d a b r v m l x t s y w f u p z ha hb hr hv hm hl hx ht hs hy hw hf hu hp fits hz =
     rw (toZ-ofZ fits, hz, hp, hu, hf, ha, hb, hr, hv, hm, hl, hx, ht, hs, hy, hw) refl
 
-pub ruleset tables = (table-is, size-wrong, table-good, table-bad, table-none, table-read, needs)
+-- by the disk's own size
+pub table-at : (d : List ℕ) (v : VolumeTableOfContents) (n : ℕ) → n ≡ perOf d → v ≡ parsed n d → v ≡ parsed (perOf d) d
+table-at d v n e q = rw e at q
+
+pub ruleset tables = (table-at, table-some, table-is, size-wrong, table-good, table-bad, table-none, table-read, needs)

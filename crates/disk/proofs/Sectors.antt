@@ -11,7 +11,7 @@ use borrow.Author.Needs.{needs}
 use Rattle.disk.specs.declared.Place.{Place}
 use Rattle.outcome.specs.Outcome.{Outcome, refused, given, number, _>>_, require}
 use Rattle.outcome.specs.declared.Refusal.the-variants.{OffDisc}
-use Rattle.disk.specs.Disk.{onDisk, start, sized, bytesOf}
+use Rattle.disk.specs.Disk.{perOf, sectors, onDisk, start, sized, bytesOf}
 use Rattle.disk.specs.Window.{sectorIn, part}
 use Rattle.outcome.proofs.Outcome.{number-0, then-gives, required}
 use Rattle.disk.proofs.Places.{number-small, sized-length}
@@ -42,37 +42,37 @@ module _ (n : ℕ) (d : List ℕ) (p : Place) where
 pub ruleset places = (on-disk-is, off-disk-is, wrong-size, place-on, place-off, needs)
 
 -- ---- the window: d is the slice that was chosen, and k the number for it
-module _ (d m : List ℕ) (p : Place) (k : ℕ) (g : d ≡ m) (e : k ≡ number (sectorIn 16 d p)) where
-  pub window-says : k ≡ number (sectorIn 16 m p)
-  window-says = rw g at e
+module _ (d m : List ℕ) (n : ℕ) (en : n ≡ perOf d) (p : Place) (k : ℕ) (g : d ≡ m) (e : k ≡ number (sectorIn n d p)) where
+  pub window-says : k ≡ number (sectorIn (perOf m) m p)
+  window-says = rw (← g, ← en) e
 
   -- what is given was found in a disk of its size, on the disk
-  pub window-given : k ≡ 0 → (sectorIn 16 d p ≡ given (bytesOf 16 d p)) × (length d ≡ 143360) × (onDisk 16 p ≡ true)
+  pub window-given : k ≡ 0 → (sectorIn n d p ≡ given (bytesOf n d p)) × (length d ≡ 256 * sectors n) × (onDisk n p ≡ true)
   unfolding sectorIn
   window-given z =
-      let o = number-0 (sectorIn 16 d p) (sym e ∙ z) in
-      let s = then-gives (sized 16 d >> require (onDisk 16 p) OffDisc) (given (bytesOf 16 d p)) (o .0) (o .1) in
-      let t = then-gives (sized 16 d) (require (onDisk 16 p) OffDisc) tt (s .0) in
-      (rw (s .0) refl, sized-length 16 d (t .0), required _ _ (t .1))
+      let o = number-0 (sectorIn n d p) (sym e ∙ z) in
+      let s = then-gives (sized n d >> require (onDisk n p) OffDisc) (given (bytesOf n d p)) (o .0) (o .1) in
+      let t = then-gives (sized n d) (require (onDisk n p) OffDisc) tt (s .0) in
+      (rw (s .0) refl, sized-length n d (t .0), required _ _ (t .1))
 
-  pub window-none : (k ≡ 0 → ⊥) → [] ≡ part (sectorIn 16 m p)
-  window-none h = rw (← g) (go (sectorIn 16 d p) refl)
+  pub window-none : (k ≡ 0 → ⊥) → [] ≡ part (sectorIn (perOf m) m p)
+  window-none h = rw (← g, ← en) (go (sectorIn n d p) refl)
     where
-      go : (o : Outcome (List ℕ)) → sectorIn 16 d p ≡ o → [] ≡ part o
+      go : (o : Outcome (List ℕ)) → sectorIn n d p ≡ o → [] ≡ part o
       go (refused r) q = refl
       go (given w) q = absurd (h (e ∙ rw q refl))
 
-  module _ (at : ℕ) (z : k ≡ 0) (a : at ≡ start 16 p) where
-    pub window-some : take (at + 256 - at) (drop at d) ≡ part (sectorIn 16 m p)
+  module _ (at : ℕ) (z : k ≡ 0) (a : at ≡ start n p) where
+    pub window-some : take (at + 256 - at) (drop at d) ≡ part (sectorIn (perOf m) m p)
     unfolding bytesOf
     window-some =
         let l : at + 256 - at ≡ 256 = omega arith in
-        rw (← g, window-given z .0, l, a) refl
+        rw (← g, ← en, window-given z .0, l, a) refl
 
     pub window-ends : at + 256 ≤ length d
     window-ends =
         let w = window-given z in
-        let s = number-small 16 p (w .2) in
+        let s = number-small n p (w .2) in
         let l = w .1 in
         omega arith
 

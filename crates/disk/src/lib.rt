@@ -5,8 +5,8 @@ ghost use mathlib.Core.Bool.{cond};
 ghost use lib.Count.{ones};
 ghost use lib.ListN.{length};
 ghost use Rattle.outcome.specs.Outcome.{number};
-ghost use Rattle.disk.specs.Disk.{place, sectors, start, byteOf, linkOf, onDisk};
-ghost use Rattle.disk.specs.Vtoc.{vtoc, readable, freeIn, freeBelow, percent, oneOf, validTable, signed, blank, tableOf, parsed};
+ghost use Rattle.disk.specs.Disk.{perOf, place, sectors, start, byteOf, linkOf, onDisk};
+ghost use Rattle.disk.specs.Vtoc.{vtoc, readable, freeIn, freeBelow, percent, oneOf, validTable, spare, signed, blank, tableOf, parsed};
 ghost use Rattle.disk.specs.Window.{sectorIn, windowed, part};
 use outcome::NO_TABLE;
 use outcome::OFF_DISC;
@@ -82,14 +82,37 @@ fn vtoc_byte(disk: &[u8], per: u8, k: u16) -> u8
     )
 }
 
-// The free sectors of a track: the ones among its 16 map bits.
+// The sectors of a track, by the disk's size: 13 for 116,480 bytes, else 16.
+pub fn sectors_of(disk: &[u8]) -> u8
+    ensures is { λ r. ⌜ r ≡ perOf (now (disk .entry)) ⌝ }
+    ensures some { λ r. ⌜ 0 < r ⌝ }
+    ensures small { λ r. ⌜ r ≤ 16 ⌝ }
+{
+    if disk.len() == 116480 {
+        return 13;
+    }
+    16
+}
+
+// Two to the power of the map bits that are below sector 0's.
+fn spare_of(per: u8) -> u16
+    ensures is { λ r. ⌜ r ≡ spare per ⌝ }
+    ensures some { λ r. ⌜ 0 < r ⌝ }
+{
+    if per == 13 {
+        return 8;
+    }
+    1
+}
+
+// The free sectors of a track: the ones among its map bits.
 fn free_in(disk: &[u8], per: u8, t: u8) -> u32
     ensures is { λ r. ⌜ r ≡ freeIn per (now (disk .entry)) t ⌝ }
     ensures small { λ r. ⌜ r ≤ 16 ⌝ }
 {
-    let low = vtoc_byte(disk, per, 56 + 4 * (t as u16)) as u16;
-    let high = vtoc_byte(disk, per, 57 + 4 * (t as u16)) as u16;
-    u16::count_ones(low + 256 * high)
+    let high = vtoc_byte(disk, per, 56 + 4 * (t as u16)) as u16;
+    let low = vtoc_byte(disk, per, 57 + 4 * (t as u16)) as u16;
+    u16::count_ones((256 * high + low) / spare_of(per))
 }
 
 // A byte as a signed number.
@@ -121,12 +144,12 @@ fn either(x: u8, a: u8, b: u8) -> bool
     x == b
 }
 
-// The table names 35 or 40 tracks, and 13 or 16 sectors.
-fn valid_table(tracks: u8, sectors: u8) -> bool
-    ensures { λ r. ⌜ r ≡ validTable tracks sectors ⌝ }
+// The table names 35 or 40 tracks, and 13 sectors or as many as the disk has.
+fn valid_table(per: u8, tracks: u8, sectors: u8) -> bool
+    ensures { λ r. ⌜ r ≡ validTable per tracks sectors ⌝ }
 {
     if either(tracks, 35, 40) {
-        return either(sectors, 13, 16);
+        return either(sectors, 13, per);
     }
     false
 }
@@ -213,21 +236,28 @@ pub fn table_refusal(disk: &[u8], per: u8) -> u8
     if disk.len() != 256 * (35 * (per as usize)) {
         return OFF_SIZE;
     }
-    if valid_table(vtoc_byte(disk, per, 52), vtoc_byte(disk, per, 53)) {
+    if valid_table(per, vtoc_byte(disk, per, 52), vtoc_byte(disk, per, 53)) {
         return 0;
     }
     NO_TABLE
 }
 
-// The volume table of contents of a flat disk; refusals 1, 2.
-pub fn parse_volume_table_of_contents(disk: &[u8]) -> VolumeTableOfContents
-    ensures { λ r. ⌜ r ≡ parsed 16 (now (disk .entry)) ⌝ }
+// The volume table of contents of a disk of `per` sectors a track; refusals 1, 2.
+pub fn table_of(disk: &[u8], per: u8) -> VolumeTableOfContents
+    ensures { λ r. ⌜ r ≡ parsed per (now (disk .entry)) ⌝ }
 {
-    let number = table_refusal(disk, 16);
+    let number = table_refusal(disk, per);
     if number != 0 {
         return refused_table(number);
     }
-    table(disk, 16)
+    table(disk, per)
+}
+
+// The volume table of contents of a flat disk; refusals 1, 2.
+pub fn parse_volume_table_of_contents(disk: &[u8]) -> VolumeTableOfContents
+    ensures { λ r. ⌜ r ≡ parsed (perOf (now (disk .entry))) (now (disk .entry)) ⌝ }
+{
+    table_of(disk, sectors_of(disk))
 }
 
 // A place that the disk has.
@@ -282,10 +312,11 @@ pub fn window<'a>(
         track: track,
         sector: sector,
     };
-    if sector_refusal(d, 16, p) != 0 {
+    let per = sectors_of(d);
+    if sector_refusal(d, per, p) != 0 {
         return &d[0..0];
     }
-    let start = sector_start(16, p);
+    let start = sector_start(per, p);
     &d[start..start + 256]
 }
 
@@ -303,5 +334,6 @@ pub fn window_refusal<'a>(
         track: track,
         sector: sector,
     };
-    sector_refusal(chosen(disk, image, flat), 16, p)
+    let d = chosen(disk, image, flat);
+    sector_refusal(d, sectors_of(d), p)
 }

@@ -14,7 +14,7 @@ use Rattle.outcome.specs.Outcome.{Outcome, refused, given, each}
 use Rattle.outcome.proofs.Outcome.{code-pos, refuses, map-refuses}
 use Rattle.disk.specs.declared.Place.{Place}
 use Rattle.disk.specs.declared.VolumeTableOfContents.{VolumeTableOfContents}
-use Rattle.disk.specs.Disk.{byteOf, sectors}
+use Rattle.disk.specs.Disk.{perOf, byteOf, sectors}
 use Rattle.disk.specs.Vtoc.{vtoc, tableOf, parsed, freeBelow, percent}
 use Rattle.catalog.specs.Catalog.{Entry, entriesOf, pages, catalog}
 use Rattle.catalog.proofs.Order.{pages-given, catalog-given, catalog-refused}
@@ -83,36 +83,36 @@ module _ (n : ℕ) (d : List ℕ) (b : Bool) (j : ℕ) (x : List ℕ) where
       (split r h)
 
 -- ---- the survey: t are the totals, v is the table
-module _ (d : List ℕ) (b : Bool) (j : ℕ) (x : List ℕ) (t : Totals) (e : t ≡ totaled (totals 16 d b j x)) where
+module _ (per : ℕ) (d : List ℕ) (b : Bool) (j : ℕ) (x : List ℕ) (t : Totals) (e : t ≡ totaled (totals per d b j x)) where
   -- a refusal of the totals is that of the contents
-  pub total-refused : (t .refusal ≡ 0 → ⊥) → (r : Refusal) × (contents 16 d ≡ refused r) × (t .refusal ≡ code r)
-  total-refused h = go (contents 16 d) refl
+  pub total-refused : (t .refusal ≡ 0 → ⊥) → (r : Refusal) × (contents per d ≡ refused r) × (t .refusal ≡ code r)
+  total-refused h = go (contents per d) refl
     where
-      go : (o : Outcome Contents) → contents 16 d ≡ o → (r : Refusal) × (contents 16 d ≡ refused r) × (t .refusal ≡ code r)
-      go (refused r) q = (r, q, ap (λ (y : Totals). y .refusal) (e ∙ totals-refused 16 d b j x r q))
-      go (given c) q = absurd (h (ap (λ (y : Totals). y .refusal) (e ∙ totals-given 16 d b j x c q .is)))
+      go : (o : Outcome Contents) → contents per d ≡ o → (r : Refusal) × (contents per d ≡ refused r) × (t .refusal ≡ code r)
+      go (refused r) q = (r, q, ap (λ (y : Totals). y .refusal) (e ∙ totals-refused per d b j x r q))
+      go (given c) q = absurd (h (ap (λ (y : Totals). y .refusal) (e ∙ totals-given per d b j x c q .is)))
 
   -- no refusal: there are contents
-  pub total-given : t .refusal ≡ 0 → (c : Contents) × (contents 16 d ≡ given c) × Found 16 d b j x c t
-  total-given z = go (contents 16 d) refl
+  pub total-given : t .refusal ≡ 0 → (c : Contents) × (contents per d ≡ given c) × Found per d b j x c t
+  total-given z = go (contents per d) refl
     where
-      go : (o : Outcome Contents) → contents 16 d ≡ o → (c : Contents) × (contents 16 d ≡ given c) × Found 16 d b j x c t
-      go (refused r) q = absurd (omega (arith, code-pos r, ap (λ (y : Totals). y .refusal) (e ∙ totals-refused 16 d b j x r q)))
-      go (given c) q = (c, q, rw e (totals-given 16 d b j x c q))
+      go : (o : Outcome Contents) → contents per d ≡ o → (c : Contents) × (contents per d ≡ given c) × Found per d b j x c t
+      go (refused r) q = absurd (omega (arith, code-pos r, ap (λ (y : Totals). y .refusal) (e ∙ totals-refused per d b j x r q)))
+      go (given c) q = (c, q, rw e (totals-given per d b j x c q))
 
-  pub survey-none : (v : DiskSurvey) → (t .refusal ≡ 0 → ⊥) → v ≡ noSurvey (t .refusal) → v ≡ surveyed (survey 16 d)
+  pub survey-none : (v : DiskSurvey) → (t .refusal ≡ 0 → ⊥) → v ≡ noSurvey (t .refusal) → v ≡ surveyed (survey per d)
   survey-none v h q =
       let k = total-refused h in
-      q ∙ ap noSurvey (k .2) ∙ sym (ap surveyed (contents-refuse 16 d (k .0) (k .1)))
+      q ∙ ap noSurvey (k .2) ∙ sym (ap surveyed (contents-refuse per d (k .0) (k .1)))
 
   -- the table of a disk with contents
-  table-is : (v : VolumeTableOfContents) (es : List Entry) → catalog 16 d ≡ given es → v ≡ parsed 16 d → v ≡ tableOf 16 d
+  table-is : (v : VolumeTableOfContents) (es : List Entry) → catalog per d ≡ given es → v ≡ parsed per d → v ≡ tableOf per d
   unfolding parsed
   table-is v es g q =
-      let p = catalog-given 16 d es g in
-      q ∙ rw (parsed, pages-given 16 d (p .0) (p .1) .0) refl
+      let p = catalog-given per d es g in
+      q ∙ rw (parsed, pages-given per d (p .0) (p .1) .0) refl
 
-  pub survey-done : (v : VolumeTableOfContents) → t .refusal ≡ 0 → v ≡ parsed 16 d
+  pub survey-done : (v : VolumeTableOfContents) → t .refusal ≡ 0 → v ≡ parsed per d
       → record {
         refusal = 0;
         volume = v .«diskette_volume_number»;
@@ -122,21 +122,21 @@ module _ (d : List ℕ) (b : Bool) (j : ℕ) (x : List ℕ) (t : Totals) (e : t 
         «percent_used» = v .«percent_used»;
         «archive_blocks» = t .blocks;
         links = t .links;
-      } ≡ surveyed (survey 16 d)
+      } ≡ surveyed (survey per d)
   unfolding tableOf
   survey-done v z q =
       let k = total-given z in
       let f = k .2 in
-      let w : v ≡ tableOf 16 d = table-is v (f .es) (f .catalog) q in
-      let s = survey-is 16 d (k .0) (f .ps) (f .es) (f .ls) (k .1) (f .pages) (f .catalog) (f .lists) in
+      let w : v ≡ tableOf per d = table-is v (f .es) (f .catalog) q in
+      let s = survey-is per d (k .0) (f .ps) (f .es) (f .ls) (k .1) (f .pages) (f .catalog) (f .lists) in
       let a : v .«diskette_volume_number» ≡ k .0 .volume = ap (λ (y : VolumeTableOfContents). y .«diskette_volume_number») w ∙ sym (f .volume) in
       let n₁ : t .entries ≡ length (f .es) = ap (λ (y : Totals). y .entries) (f .is) ∙ zero-add (length (f .es)) in
       let n₂ : t .blocks ≡ 1 + blocksIn (k .0 .files) = ap (λ (y : Totals). y .blocks) (f .is) in
       let n₃ : t .links ≡ length (f .ps) + sumOf (map length (f .ls)) =
       ap (λ (y : Totals). y .links) (f .is) ∙ ap (λ (m : ℕ). m + sumOf (map length (f .ls))) (zero-add (length (f .ps))) in
-      let b₁ : v .free ≡ freeBelow 16 d 35 = ap (λ (y : VolumeTableOfContents). y .free) w in
-      let b₂ : v .used ≡ sectors 16 - freeBelow 16 d 35 = ap (λ (y : VolumeTableOfContents). y .used) w in
-      let b₃ : v .«percent_used» ≡ percent (sectors 16) (sectors 16 - freeBelow 16 d 35) = ap (λ (y : VolumeTableOfContents). y .«percent_used») w in
+      let b₁ : v .free ≡ freeBelow per d 35 = ap (λ (y : VolumeTableOfContents). y .free) w in
+      let b₂ : v .used ≡ sectors per - freeBelow per d 35 = ap (λ (y : VolumeTableOfContents). y .used) w in
+      let b₃ : v .«percent_used» ≡ percent (sectors per) (sectors per - freeBelow per d 35) = ap (λ (y : VolumeTableOfContents). y .«percent_used») w in
       (λ i.
       record {
         refusal = 0;
@@ -150,4 +150,8 @@ module _ (d : List ℕ) (b : Bool) (j : ℕ) (x : List ℕ) (t : Totals) (e : t 
       })
       ∙ sym (ap surveyed s)
 
-pub ruleset surveys = (survey-none, survey-done, needs)
+-- by the disk's own size
+pub survey-at : (d : List ℕ) (v : DiskSurvey) (n : ℕ) → n ≡ perOf d → v ≡ surveyed (survey n d) → v ≡ surveyed (survey (perOf d) d)
+survey-at d v n e q = rw e at q
+
+pub ruleset surveys = (survey-at, survey-none, survey-done, needs)

@@ -91,19 +91,19 @@ module _ (n : ℕ) (d : List ℕ) (b : Bool) (j : ℕ) (x : List ℕ) (first : P
 pub ruleset goings = (none-yet-is, go-none, go-within, go-ring, go-off, go-bad, go-last, go-more, not-true, not-false, needs)
 
 -- ---- the disk
-module _ (d : List ℕ) (b : Bool) (j : ℕ) (x : List ℕ) (k : ℕ) (e : k ≡ number (readable 16 d)) (v : Totals) where
-  pub through-refused : (k ≡ 0 → ⊥) → v ≡ noTotals k → v ≡ totaled (totals 16 d b j x)
+module _ (per : ℕ) (d : List ℕ) (b : Bool) (j : ℕ) (x : List ℕ) (k : ℕ) (e : k ≡ number (readable per d)) (v : Totals) where
+  pub through-refused : (k ≡ 0 → ⊥) → v ≡ noTotals k → v ≡ totaled (totals per d b j x)
   unfolding totals pages
-  through-refused h w = w ∙ go (readable 16 d) e
+  through-refused h w = w ∙ go (readable per d) e
     where
       go : (o : Outcome (Unit {0})) → k ≡ number o
           → noTotals k
-          ≡ totaled ((o >> walk 16 (soundPage 16 d) (nextPage 16 d) (sectors 16 + 1) [] (firstPage 16 d)) >>= λ ps. given (foldl (withPage 16 d b j x) noneYet ps))
+          ≡ totaled ((o >> walk per (soundPage per d) (nextPage per d) (sectors per + 1) [] (firstPage per d)) >>= λ ps. given (foldl (withPage per d b j x) noneYet ps))
       go (refused r) q = rw q refl
       go (given u) q = absurd (h q)
 
-  pub through-walked : k ≡ 0 → (p : Place) → p ≡ firstPage 16 d → v ≡ totaled (walkTotals 16 d b j x p) → v ≡ totaled (totals 16 d b j x)
+  pub through-walked : k ≡ 0 → (p : Place) → p ≡ firstPage per d → v ≡ totaled (walkTotals per d b j x p) → v ≡ totaled (totals per d b j x)
   unfolding totals pages walkTotals
-  through-walked z p a w = let o = number-0 (readable 16 d) (sym e ∙ z) in w ∙ rw (a, totals, o .1) refl
+  through-walked z p a w = let o = number-0 (readable per d) (sym e ∙ z) in w ∙ rw (a, totals, o .1) refl
 
 pub ruleset throughs = (through-refused, through-walked, needs)

@@ -16,7 +16,7 @@ use Rattle.outcome.specs.declared.Handed.{Handed}
 use Rattle.outcome.specs.Outcome.{Outcome, refused, given, _>>=_, each, leftBy, refusedWith, acceptedWith, Hands}
 use Rattle.outcome.proofs.Outcome.{each-cons, hands-refused, hands-short, hands-over}
 use Rattle.disk.specs.declared.Place.{Place}
-use Rattle.disk.specs.Disk.{byteOf, linkOf}
+use Rattle.disk.specs.Disk.{perOf, byteOf, linkOf}
 use Rattle.disk.specs.Chain.{walk}
 use Rattle.disk.proofs.Steps.{made, rest, joins, joined-is, rest-start, rest-within, rest-last, rest-on, rest-room}
 use Rattle.catalog.specs.Catalog.{Entry, catalog}
@@ -141,61 +141,65 @@ module _ (n : ℕ) (d : List ℕ) (p : Place) (h : Thread) (f : Kept n d p h) (o
 pub ruleset listings = (lists-short, lists-ready, lists-done, needs)
 
 -- ---- by number: the lists of the entry that the pass chose
-module _ (d : List ℕ) (k : ℕ) (x : List ℕ) where
+module _ (per : ℕ) (d : List ℕ) (k : ℕ) (x : List ℕ) where
   abbrev Listed : Choice → Choice → Outcome (List ℕ) → Type 0
   Listed c₀ c w =
       ((c ≡ c₀) × (w ≡ given []))
-      ⊎ ((e : Entry) × (f : File) × (fileOf 16 d e ≡ given f) × (c ≡ choiceOf 16 d e) × (w ≡ walkPlaces 16 d (e .list)))
+      ⊎ ((e : Entry) × (f : File) × (fileOf per d e ≡ given f) × (c ≡ choiceOf per d e) × (w ≡ walkPlaces per d (e .list)))
 
-  listed : (es : List Entry) (fs : List File) (c : Choice) (j : ℕ) → each (fileOf 16 d) es ≡ given fs
-      → Listed c (chosenIn 16 d false k x c j es) (listsFrom 16 d k j es)
+  listed : (es : List Entry) (fs : List File) (c : Choice) (j : ℕ) → each (fileOf per d) es ≡ given fs
+      → Listed c (chosenIn per d false k x c j es) (listsFrom per d k j es)
   unfolding chosenIn listsFrom each
   listed [] fs c j h = inl (refl, refl)
   listed (e ∷ es) fs c j h =
-      let w = each-cons (fileOf 16 d) e es fs h in
+      let w = each-cons (fileOf per d) e es fs h in
       by-test (eqb j k)
-      (λ b. let q = eqb-true j k b in inr (e, w .0, w .2, rw b (num-past 16 d x k es (choiceOf 16 d e) (j + 1) (omega arith)), rw b refl))
+      (λ b. let q = eqb-true j k b in inr (e, w .0, w .2, rw b (num-past per d x k es (choiceOf per d e) (j + 1) (omega arith)), rw b refl))
       (λ b. ⊎-elim (λ i. inl (rw b (i .0), rw b (i .1))) (λ i. inr (i .0, i .1, i .2, rw b (i .3), rw b (i .4))) (listed es (w .1) c (j + 1) (w .3)))
 
-  module _ (t : Totals) (u : t ≡ totaled (totals 16 d false k x)) (o : List ℕ) where
-    lists-of : (c : Contents) → contents 16 d ≡ given c → (es : List Entry) → catalog 16 d ≡ given es → listsOfNumber 16 d k ≡ listsFrom 16 d k 0 es
+  module _ (t : Totals) (u : t ≡ totaled (totals per d false k x)) (o : List ℕ) where
+    lists-of : (c : Contents) → contents per d ≡ given c → (es : List Entry) → catalog per d ≡ given es → listsOfNumber per d k ≡ listsFrom per d k 0 es
     unfolding listsOfNumber
     lists-of c h es g = rw (h, g) refl
 
-    which-lists : t .refusal ≡ 0 → Listed noChoice (t .choice) (listsOfNumber 16 d k)
+    which-lists : t .refusal ≡ 0 → Listed noChoice (t .choice) (listsOfNumber per d k)
     which-lists z =
-        let v = total-given d false k x t u z in
-        let s : t .choice ≡ chosenIn 16 d false k x noChoice 0 (v .2 .es) = ap (λ (y : Totals). y .choice) (v .2 .is) in
+        let v = total-given per d false k x t u z in
+        let s : t .choice ≡ chosenIn per d false k x noChoice 0 (v .2 .es) = ap (λ (y : Totals). y .choice) (v .2 .is) in
         let l = lists-of (v .0) (v .1) (v .2 .es) (v .2 .catalog) in
         ⊎-elim (λ i. inl (s ∙ i .0, l ∙ i .1)) (λ i. inr (i .0, i .1, i .2, s ∙ i .3, l ∙ i .4)) (listed (v .2 .es) (v .0 .files) noChoice 0 (v .2 .files))
 
-    pub number-refused : (r : Handed) → (t .refusal ≡ 0 → ⊥) → r ≡ refusedWith (t .refusal) → Hands (listsOfNumber 16 d k) o o r
+    pub number-refused : (r : Handed) → (t .refusal ≡ 0 → ⊥) → r ≡ refusedWith (t .refusal) → Hands (listsOfNumber per d k) o o r
     unfolding listsOfNumber
     number-refused r h q =
-        let v = total-refused d false k x t u h in
-        hands-refused (listsOfNumber 16 d k) o (v .0) (rw (v .1) refl) r (q ∙ ap refusedWith (v .2))
+        let v = total-refused per d false k x t u h in
+        hands-refused (listsOfNumber per d k) o (v .0) (rw (v .1) refl) r (q ∙ ap refusedWith (v .2))
 
     module _ (z : t .refusal ≡ 0) where
-      none-listed : t .choice .found ≡ false → Listed noChoice (t .choice) (listsOfNumber 16 d k) → listsOfNumber 16 d k ≡ given []
+      none-listed : t .choice .found ≡ false → Listed noChoice (t .choice) (listsOfNumber per d k) → listsOfNumber per d k ≡ given []
       none-listed n (inl i) = i .1
       none-listed n (inr i) = absurd (clash (sym n ∙ ap (λ (y : Choice). y .found) (i .3)))
 
-      pub number-none : (r : Handed) → t .choice .found ≡ false → r ≡ acceptedWith 0 → Hands (listsOfNumber 16 d k) o o r
-      number-none r n q = hands-over (listsOfNumber 16 d k) o o [] (none-listed n (which-lists z)) (omega arith) refl r q
+      pub number-none : (r : Handed) → t .choice .found ≡ false → r ≡ acceptedWith 0 → Hands (listsOfNumber per d k) o o r
+      number-none r n q = hands-over (listsOfNumber per d k) o o [] (none-listed n (which-lists z)) (omega arith) refl r q
 
       module _ (y : t .choice .found ≡ true) where
-        at-listed : Listed noChoice (t .choice) (listsOfNumber 16 d k) → Kept 16 d (t .choice .list) (t .choice .thread)
+        at-listed : Listed noChoice (t .choice) (listsOfNumber per d k) → Kept per d (t .choice .list) (t .choice .thread)
         at-listed (inl i) = absurd (clash (sym (ap (λ (a : Choice). a .found) (i .0)) ∙ y))
-        at-listed (inr i) = let v = total-given d false k x t u z in chosen-at d (v .2 .es) (v .2 .catalog) (i .0) (i .1) (i .2) (t .choice) (i .3)
+        at-listed (inr i) = let v = total-given per d false k x t u z in chosen-at per d (v .2 .es) (v .2 .catalog) (i .0) (i .1) (i .2) (t .choice) (i .3)
 
-        walk-listed : Listed noChoice (t .choice) (listsOfNumber 16 d k) → walkPlaces 16 d (t .choice .list) ≡ listsOfNumber 16 d k
+        walk-listed : Listed noChoice (t .choice) (listsOfNumber per d k) → walkPlaces per d (t .choice .list) ≡ listsOfNumber per d k
         walk-listed (inl i) = absurd (clash (sym (ap (λ (a : Choice). a .found) (i .0)) ∙ y))
-        walk-listed (inr i) = ap (λ (a : Choice). walkPlaces 16 d (a .list)) (i .3) ∙ sym (i .4)
+        walk-listed (inr i) = ap (λ (a : Choice). walkPlaces per d (a .list)) (i .3) ∙ sym (i .4)
 
-        pub number-at : Kept 16 d (t .choice .list) (t .choice .thread)
+        pub number-at : Kept per d (t .choice .list) (t .choice .thread)
         number-at = at-listed (which-lists z)
 
-        pub number-done : (o′ : List ℕ) (r : Handed) → Hands (walkPlaces 16 d (t .choice .list)) o o′ r → Hands (listsOfNumber 16 d k) o o′ r
+        pub number-done : (o′ : List ℕ) (r : Handed) → Hands (walkPlaces per d (t .choice .list)) o o′ r → Hands (listsOfNumber per d k) o o′ r
         number-done o′ r h = subst (λ (w : Outcome (List ℕ)). Hands w o o′ r) (walk-listed (which-lists z)) h
 
-pub ruleset listCalls = (number-refused, number-none, number-at, number-done, not-true, not-false, needs)
+-- by the disk's own size
+pub lists-per : (d o o′ : List ℕ) (r : Handed) (k n : ℕ) → n ≡ perOf d → Hands (listsOfNumber n d k) o o′ r → Hands (listsOfNumber (perOf d) d k) o o′ r
+lists-per d o o′ r k n e q = rw e at q
+
+pub ruleset listCalls = (lists-per, number-refused, number-none, number-at, number-done, not-true, not-false, needs)

@@ -17,7 +17,7 @@ use Rattle.outcome.specs.declared.Refusal.the-variants.{OffSize, OffDisc}
 use Rattle.outcome.specs.Outcome.{given, refusedWith, acceptedWith, Hands}
 use Rattle.outcome.proofs.Outcome.{hands-refused, hands-short, hands-over}
 use Rattle.disk.specs.declared.Place.{Place}
-use Rattle.disk.specs.Disk.{start, onDisk, sized}
+use Rattle.disk.specs.Disk.{sectors, perOf, start, onDisk, sized}
 use Rattle.disk.proofs.Places.{number-small}
 use Rattle.files.specs.declared.PairRun.{PairRun}
 use Rattle.files.specs.Contents.{placeBytes, pairAt, pairsOf, pairsAt, pairBytes}
@@ -54,40 +54,44 @@ length-two [] = refl
 length-two (p ∷ ps) = let i = length-two ps in omega arith
 
 -- ---- the call
-module _ (d : List ℕ) (p : Place) (o : List ℕ) where
-  pub pairs-size : (h : Handed) → (length d ≡ 143360 → ⊥) → h ≡ refusedWith 1 → Hands (pairBytes 16 d p) o o h
+module _ (per : ℕ) (d : List ℕ) (p : Place) (o : List ℕ) where
+  pub pairs-size : (h : Handed) → (length d ≡ 256 * sectors per → ⊥) → h ≡ refusedWith 1 → Hands (pairBytes per d p) o o h
   unfolding pairBytes pairsAt sized
-  pairs-size h m e = hands-refused (pairBytes 16 d p) o OffSize (rw (ne-eqb _ _ m) refl) h e
+  pairs-size h m e = hands-refused (pairBytes per d p) o OffSize (rw (ne-eqb _ _ m) refl) h e
 
-  module _ (l : length d ≡ 143360) (on : Bool) (w : on ≡ onDisk 16 p) where
-    pub pairs-off : (h : Handed) → on ≡ false → h ≡ refusedWith 3 → Hands (pairBytes 16 d p) o o h
+  module _ (l : length d ≡ 256 * sectors per) (on : Bool) (w : on ≡ onDisk per p) where
+    pub pairs-off : (h : Handed) → on ≡ false → h ≡ refusedWith 3 → Hands (pairBytes per d p) o o h
     unfolding pairBytes pairsAt sized
-    pairs-off h z e = hands-refused (pairBytes 16 d p) o OffDisc (rw (eq-eqb _ _ l, ← w, z) refl) h e
+    pairs-off h z e = hands-refused (pairBytes per d p) o OffDisc (rw (eq-eqb _ _ l, ← w, z) refl) h e
 
-    module _ (z : on ≡ true) (r : PairRun) (u : r ≡ runOf 16 d p) where
+    module _ (z : on ≡ true) (r : PairRun) (u : r ≡ runOf per d p) where
       -- the bytes
-      gives : pairBytes 16 d p ≡ given (flatMap placeBytes (pairsOf 16 d p))
+      gives : pairBytes per d p ≡ given (flatMap placeBytes (pairsOf per d p))
       unfolding pairBytes pairsAt sized
       gives = rw (eq-eqb _ _ l, ← w, z) refl
 
-      inside : start 16 p + 256 ≤ length d
-      inside = let s = number-small 16 p (sym w ∙ z) in omega arith
+      inside : start per p + 256 ≤ length d
+      inside = let s = number-small per p (sym w ∙ z) in omega arith
 
-      counts : r .count ≡ length (pairsOf 16 d p)
+      counts : r .count ≡ length (pairsOf per d p)
       counts = ap (λ (y : PairRun). y .count) u
 
-      long : length (flatMap placeBytes (pairsOf 16 d p)) ≡ 2 * r .count
-      long = rw counts (length-two (pairsOf 16 d p))
+      long : length (flatMap placeBytes (pairsOf per d p)) ≡ 2 * r .count
+      long = rw counts (length-two (pairsOf per d p))
 
-      pub pairs-short : (h : Handed) → length o < 2 * r .count → h ≡ refusedWith 12 → Hands (pairBytes 16 d p) o o h
-      pairs-short h m e = hands-short (pairBytes 16 d p) o (flatMap placeBytes (pairsOf 16 d p)) gives (rw long m) h e
+      pub pairs-short : (h : Handed) → length o < 2 * r .count → h ≡ refusedWith 12 → Hands (pairBytes per d p) o o h
+      pairs-short h m e = hands-short (pairBytes per d p) o (flatMap placeBytes (pairsOf per d p)) gives (rw long m) h e
 
-      pub pairs-done : (h : Handed) (b : ℕ) (y o′ : List ℕ) → b ≡ start 16 p → 2 * r .count ≤ length o → y ≡ take (2 * r .count) (drop (b + 12) d)
-          → o′ ≡ placed 0 y o → h ≡ acceptedWith (2 * r .count) → Hands (pairBytes 16 d p) o o′ h
+      pub pairs-done : (h : Handed) (b : ℕ) (y o′ : List ℕ) → b ≡ start per p → 2 * r .count ≤ length o → y ≡ take (2 * r .count) (drop (b + 12) d)
+          → o′ ≡ placed 0 y o → h ≡ acceptedWith (2 * r .count) → Hands (pairBytes per d p) o o′ h
       pairs-done h b y o′ q m f g e =
-          let x : List ℕ = flatMap placeBytes (pairsOf 16 d p) in
-          let k : y ≡ x = f ∙ rw (q, counts) (sym (pairs-row 16 d p inside)) in
+          let x : List ℕ = flatMap placeBytes (pairsOf per d p) in
+          let k : y ≡ x = f ∙ rw (q, counts) (sym (pairs-row per d p inside)) in
           let t : Put 0 x o o′ = placed-put (rw k at g) (omega (arith, long)) in
-          hands-over (pairBytes 16 d p) o o′ x gives (omega (arith, long)) (put-front t) h (rw long e)
+          hands-over (pairBytes per d p) o o′ x gives (omega (arith, long)) (put-front t) h (rw long e)
 
-pub ruleset pairCalls = (pairs-size, pairs-off, pairs-short, pairs-done, not-true, not-false, needs)
+-- by the disk's own size
+pub pairs-per : (d o o′ : List ℕ) (r : Handed) (p : Place) (n : ℕ) → n ≡ perOf d → Hands (pairBytes n d p) o o′ r → Hands (pairBytes (perOf d) d p) o o′ r
+pairs-per d o o′ r p n e q = rw e at q
+
+pub ruleset pairCalls = (pairs-per, pairs-size, pairs-off, pairs-short, pairs-done, not-true, not-false, needs)

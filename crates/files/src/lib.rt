@@ -6,7 +6,7 @@ ghost use lib.Dec.{eqb};
 ghost use Rattle.outcome.specs.Outcome.{Hands, leftBy};
 ghost use Rattle.catalog.specs.Listing.{Ready};
 ghost use Rattle.catalog.specs.Catalog.{shown, entryFrom};
-ghost use Rattle.disk.specs.Disk.{place, byteOf, bytesOf};
+ghost use Rattle.disk.specs.Disk.{perOf, place, byteOf, bytesOf};
 ghost use Rattle.files.specs.Contents.{pairAt, pairsOf, wholeLink, listWalk, pairBytes};
 ghost use lib.ListN.{take};
 ghost use Rattle.lists.specs.Same.{same};
@@ -31,8 +31,9 @@ use disk::byte_of;
 use disk::chain_budget;
 use disk::link_of;
 use disk::on_disk;
-use disk::parse_volume_table_of_contents;
 use disk::sector_start;
+use disk::sectors_of;
+use disk::table_of;
 use disk::table_refusal;
 use lists::byte_at;
 use lists::copy_at;
@@ -481,15 +482,15 @@ fn build_files(disk: &[u8], per: u8, first: Place, named: bool, number: u64, nam
     }
 }
 
-// The totals of a flat disk, and the entry asked for; refusals 1 to 6 in the flat order.
-fn go_through(disk: &[u8], named: bool, number: u64, name: &[u8]) -> Totals
-    ensures { λ r. ⌜ r ≡ totaled (totals 16 (now (disk .entry)) named number (now (name .entry))) ⌝ }
+// The totals of a disk of `per` sectors a track, and the entry asked for; refusals 1 to 6 in the flat order.
+fn go_through(disk: &[u8], per: u8, named: bool, number: u64, name: &[u8]) -> Totals
+    ensures { λ r. ⌜ r ≡ totaled (totals per (now (disk .entry)) named number (now (name .entry))) ⌝ }
 {
-    let refusal = table_refusal(disk, 16);
+    let refusal = table_refusal(disk, per);
     if refusal != 0 {
         return no_totals(refusal);
     }
-    build_files(disk, 16, first_page(disk, 16), named, number, name)
+    build_files(disk, per, first_page(disk, per), named, number, name)
 }
 
 // A refusal: zeros.
@@ -508,15 +509,15 @@ fn no_survey(number: u8) -> DiskSurvey
     }
 }
 
-// The survey of a flat disk: volume, entries, free, used, percent used, archive blocks, and the links followed; refusals 1 to 6.
-pub fn survey(disk: &[u8]) -> DiskSurvey
-    ensures { λ r. ⌜ r ≡ surveyed (survey 16 (now (disk .entry))) ⌝ }
+// The survey of a disk of `per` sectors a track; refusals 1 to 6.
+fn survey_of(disk: &[u8], per: u8) -> DiskSurvey
+    ensures { λ r. ⌜ r ≡ surveyed (survey per (now (disk .entry))) ⌝ }
 {
-    let t = go_through(disk, false, 0, b"");
+    let t = go_through(disk, per, false, 0, b"");
     if t.refusal != 0 {
         return no_survey(t.refusal);
     }
-    let v = parse_volume_table_of_contents(disk);
+    let v = table_of(disk, per);
     DiskSurvey {
         refusal: 0,
         volume: v.diskette_volume_number,
@@ -527,6 +528,13 @@ pub fn survey(disk: &[u8]) -> DiskSurvey
         archive_blocks: t.blocks,
         links: t.links,
     }
+}
+
+// The survey of a flat disk: volume, entries, free, used, percent used, archive blocks, and the links followed; refusals 1 to 6.
+pub fn survey(disk: &[u8]) -> DiskSurvey
+    ensures { λ r. ⌜ r ≡ surveyed (survey (perOf (now (disk .entry))) (now (disk .entry))) ⌝ }
+{
+    survey_of(disk, sectors_of(disk))
 }
 
 // The difference, or 0.
@@ -573,27 +581,34 @@ fn copy_pairs(disk: &[u8], per: u8, p: Place, out: &mut [u8], size: usize, first
     s
 }
 
+// The pairs of the list at p on a disk of `per` sectors a track; refusals 1, 3, 12.
+fn pairs_of(disk: &[u8], per: u8, p: Place, out: &mut [u8]) -> Handed
+    ensures { λ r. ⌜ Hands (pairBytes per (now (disk .entry)) p) (now (out .entry)) (now (out .exit)) r ⌝ }
+{
+    if disk.len() != 256 * (35 * (per as usize)) {
+        return refused(OFF_SIZE);
+    }
+    if !on_disk(per, p) {
+        return refused(OFF_DISC);
+    }
+    let run = parse_track_sector_list(disk, per, p);
+    let size = 2 * (run.count as usize);
+    if out.len() < size {
+        return refused(TRAY_SHORT);
+    }
+    copy_at(part(disk, sector_start(per, p) + 12, size), out, 0);
+    accepted(size)
+}
+
 // The pairs of the list at a location, two bytes each: track, sector; refusals 1, 3, 12. The pairs are not followed.
 pub fn track_sector_pairs(disk: &[u8], track: Track, sector: Sector, out: &mut [u8]) -> Handed
-    ensures { λ r. ⌜ Hands (pairBytes 16 (now (disk .entry)) (place (track .0) (sector .0))) (now (out .entry)) (now (out .exit)) r ⌝ }
+    ensures { λ r. ⌜ Hands (pairBytes (perOf (now (disk .entry))) (now (disk .entry)) (place (track .0) (sector .0))) (now (out .entry)) (now (out .exit)) r ⌝ }
 {
     let p = Place {
         track: track,
         sector: sector,
     };
-    if disk.len() != 143360 {
-        return refused(OFF_SIZE);
-    }
-    if !on_disk(16, p) {
-        return refused(OFF_DISC);
-    }
-    let run = parse_track_sector_list(disk, 16, p);
-    let size = 2 * (run.count as usize);
-    if out.len() < size {
-        return refused(TRAY_SHORT);
-    }
-    copy_at(part(disk, sector_start(16, p) + 12, size), out, 0);
-    accepted(size)
+    pairs_of(disk, sectors_of(disk), p, out)
 }
 
 // Copies what is wanted of the sectors of all lists from `first` on, where these were followed before; the spot behind it.
@@ -646,11 +661,11 @@ fn get_data(disk: &[u8], per: u8, list: Place, kind: u8, h: Thread, out: &mut [u
     accepted(size)
 }
 
-// The bytes of entry number `number`, from 0; none past the last. Refusals 1 to 6, 12.
-pub fn file(disk: &[u8], number: u64, out: &mut [u8]) -> Handed
-    ensures { λ r. ⌜ Hands (fileOfNumber 16 (now (disk .entry)) number) (now (out .entry)) (now (out .exit)) r ⌝ }
+// The bytes of an entry of a disk of `per` sectors a track; refusals 1 to 6, 12.
+fn file_of(disk: &[u8], per: u8, number: u64, out: &mut [u8]) -> Handed
+    ensures { λ r. ⌜ Hands (fileOfNumber per (now (disk .entry)) number) (now (out .entry)) (now (out .exit)) r ⌝ }
 {
-    let t = go_through(disk, false, number, b"");
+    let t = go_through(disk, per, false, number, b"");
     if t.refusal != 0 {
         return refused(t.refusal);
     }
@@ -658,14 +673,21 @@ pub fn file(disk: &[u8], number: u64, out: &mut [u8]) -> Handed
     if !c.found {
         return accepted(0);
     }
-    get_data(disk, 16, c.list, c.kind, c.thread, out)
+    get_data(disk, per, c.list, c.kind, c.thread, out)
 }
 
-// The bytes of the last entry whose shown name is `name`. Refusals 1 to 6, 18, 12.
-pub fn fetch(disk: &[u8], name: &[u8], out: &mut [u8]) -> Handed
-    ensures { λ r. ⌜ Hands (fetched 16 (now (disk .entry)) (now (name .entry))) (now (out .entry)) (now (out .exit)) r ⌝ }
+// The bytes of entry number `number`, from 0; none past the last. Refusals 1 to 6, 12.
+pub fn file(disk: &[u8], number: u64, out: &mut [u8]) -> Handed
+    ensures { λ r. ⌜ Hands (fileOfNumber (perOf (now (disk .entry))) (now (disk .entry)) number) (now (out .entry)) (now (out .exit)) r ⌝ }
 {
-    let t = go_through(disk, true, 0, name);
+    file_of(disk, sectors_of(disk), number, out)
+}
+
+// The bytes of the last entry of a name on a disk of `per` sectors a track; refusals 1 to 6, 18, 12.
+fn fetch_of(disk: &[u8], per: u8, name: &[u8], out: &mut [u8]) -> Handed
+    ensures { λ r. ⌜ Hands (fetched per (now (disk .entry)) (now (name .entry))) (now (out .entry)) (now (out .exit)) r ⌝ }
+{
+    let t = go_through(disk, per, true, 0, name);
     if t.refusal != 0 {
         return refused(t.refusal);
     }
@@ -673,7 +695,14 @@ pub fn fetch(disk: &[u8], name: &[u8], out: &mut [u8]) -> Handed
     if !c.found {
         return refused(NOT_ON_ROLL);
     }
-    get_data(disk, 16, c.list, c.kind, c.thread, out)
+    get_data(disk, per, c.list, c.kind, c.thread, out)
+}
+
+// The bytes of the last entry whose shown name is `name`. Refusals 1 to 6, 18, 12.
+pub fn fetch(disk: &[u8], name: &[u8], out: &mut [u8]) -> Handed
+    ensures { λ r. ⌜ Hands (fetched (perOf (now (disk .entry))) (now (disk .entry)) (now (name .entry))) (now (out .entry)) (now (out .exit)) r ⌝ }
+{
+    fetch_of(disk, sectors_of(disk), name, out)
 }
 
 // Puts the places of the lists from `first` on into out, two bytes each, where these were followed and out has the space.
@@ -710,11 +739,11 @@ fn get_lists(disk: &[u8], per: u8, list: Place, h: Thread, out: &mut [u8]) -> Ha
     accepted(size)
 }
 
-// The track/sector lists of entry number `number`, from 0, two bytes each: track, sector; none past the last. Refusals 1 to 6, 12.
-pub fn track_sector_lists(disk: &[u8], number: u64, out: &mut [u8]) -> Handed
-    ensures { λ r. ⌜ Hands (listsOfNumber 16 (now (disk .entry)) number) (now (out .entry)) (now (out .exit)) r ⌝ }
+// The lists of an entry of a disk of `per` sectors a track; refusals 1 to 6, 12.
+fn lists_of(disk: &[u8], per: u8, number: u64, out: &mut [u8]) -> Handed
+    ensures { λ r. ⌜ Hands (listsOfNumber per (now (disk .entry)) number) (now (out .entry)) (now (out .exit)) r ⌝ }
 {
-    let t = go_through(disk, false, number, b"");
+    let t = go_through(disk, per, false, number, b"");
     if t.refusal != 0 {
         return refused(t.refusal);
     }
@@ -722,5 +751,12 @@ pub fn track_sector_lists(disk: &[u8], number: u64, out: &mut [u8]) -> Handed
     if !c.found {
         return accepted(0);
     }
-    get_lists(disk, 16, c.list, c.thread, out)
+    get_lists(disk, per, c.list, c.thread, out)
+}
+
+// The track/sector lists of entry number `number`, from 0, two bytes each: track, sector; none past the last. Refusals 1 to 6, 12.
+pub fn track_sector_lists(disk: &[u8], number: u64, out: &mut [u8]) -> Handed
+    ensures { λ r. ⌜ Hands (listsOfNumber (perOf (now (disk .entry))) (now (disk .entry)) number) (now (out .entry)) (now (out .exit)) r ⌝ }
+{
+    lists_of(disk, sectors_of(disk), number, out)
 }

@@ -19,7 +19,7 @@ use Rattle.outcome.specs.Outcome.{Outcome, refused, given, _>>=_, number, hande
 use Rattle.outcome.proofs.Outcome.{code-pos}
 use Rattle.disk.specs.declared.Place.{Place}
 use Rattle.disk.specs.declared.VolumeTableOfContents.{VolumeTableOfContents}
-use Rattle.disk.specs.Disk.{byteOf}
+use Rattle.disk.specs.Disk.{perOf, byteOf}
 use Rattle.disk.specs.Vtoc.{vtoc, blank, readable, tableOf, parsed}
 use Rattle.disk.specs.Window.{part}
 use Rattle.files.specs.declared.DiskSurvey.{DiskSurvey}
@@ -56,54 +56,54 @@ given-fields o v d o′ r e h = subst (λ (x : Outcome (List ℕ)). Fields x d o
 
 module _ (x : List ℕ) (d : List ℕ) where
   -- ---- the survey
-  survey-no : (p : Outcome Survey) (s : DiskSurvey) → survey 16 x ≡ p → s ≡ surveyed p → (s .refusal ≡ 0 → ⊥) → Fields (surveyNumbers x) d d (s .refusal)
+  survey-no : (p : Outcome Survey) (s : DiskSurvey) → survey (perOf x) x ≡ p → s ≡ surveyed p → (s .refusal ≡ 0 → ⊥) → Fields (surveyNumbers x) d d (s .refusal)
   unfolding surveyNumbers
   survey-no (refused q) s e h z = refused-fields (surveyNumbers x) q d (s .refusal) (rw e refl) (ap (λ (y : DiskSurvey). y .refusal) h)
   survey-no (given v) s e h z = absurd (z (ap (λ (y : DiskSurvey). y .refusal) h))
 
-  pub survey-refused : (s : DiskSurvey) → s ≡ surveyed (survey 16 x) → (s .refusal ≡ 0 → ⊥) → Fields (surveyNumbers x) d d (s .refusal)
-  survey-refused s h z = survey-no (survey 16 x) s refl h z
+  pub survey-refused : (s : DiskSurvey) → s ≡ surveyed (survey (perOf x) x) → (s .refusal ≡ 0 → ⊥) → Fields (surveyNumbers x) d d (s .refusal)
+  survey-refused s h z = survey-no (survey (perOf x) x) s refl h z
 
-  survey-yes : (p : Outcome Survey) (s : DiskSurvey) → survey 16 x ≡ p → s ≡ surveyed p → s .refusal ≡ 0
+  survey-yes : (p : Outcome Survey) (s : DiskSurvey) → survey (perOf x) x ≡ p → s ≡ surveyed p → s .refusal ≡ 0
       → surveyNumbers x ≡ given (s .volume ∷ s .entries ∷ s .free ∷ s .used ∷ s .«percent_used» ∷ s .«archive_blocks» ∷ s .links ∷ [])
   unfolding surveyNumbers
   survey-yes (refused q) s e h z = absurd (omega (arith, code-pos q, ap (λ (y : DiskSurvey). y .refusal) h))
   survey-yes (given v) s e h z =
       rw (surveyNumbers, e) (sym (ap (λ (y : DiskSurvey). given (y .volume ∷ y .entries ∷ y .free ∷ y .used ∷ y .«percent_used» ∷ y .«archive_blocks» ∷ y .links ∷ [])) h))
 
-  pub survey-given : (s : DiskSurvey) → s ≡ surveyed (survey 16 x) → s .refusal ≡ 0 → (o : List ℕ) (r : ℕ)
+  pub survey-given : (s : DiskSurvey) → s ≡ surveyed (survey (perOf x) x) → s .refusal ≡ 0 → (o : List ℕ) (r : ℕ)
       → Fields (given (s .volume ∷ s .entries ∷ s .free ∷ s .used ∷ s .«percent_used» ∷ s .«archive_blocks» ∷ s .links ∷ [])) d o r → Fields (surveyNumbers x) d o r
-  survey-given s h z o r u = given-fields (surveyNumbers x) _ d o r (survey-yes (survey 16 x) s refl h z) u
+  survey-given s h z o r u = given-fields (surveyNumbers x) _ d o r (survey-yes (survey (perOf x) x) s refl h z) u
 
 pub ruleset surveying = (survey-refused, survey-given, needs)
 
 -- ---- the VTOC
 module _ (x : List ℕ) (d : List ℕ) where
-  vtoc-no : (p : Outcome (Unit {0})) (v : VolumeTableOfContents) → readable 16 x ≡ p → v ≡ parsed 16 x → (v .refusal ≡ 0 → ⊥) → Fields (vtocNumbers x) d d (v .refusal)
+  vtoc-no : (p : Outcome (Unit {0})) (v : VolumeTableOfContents) → readable (perOf x) x ≡ p → v ≡ parsed (perOf x) x → (v .refusal ≡ 0 → ⊥) → Fields (vtocNumbers x) d d (v .refusal)
   unfolding vtocNumbers parsed tableOf
   vtoc-no (refused q) v e h z =
       let t : v ≡ blank (code q) = h ∙ rw (parsed, e) refl in
       refused-fields (vtocNumbers x) q d (v .refusal) (rw e refl) (ap (λ (y : VolumeTableOfContents). y .refusal) t)
   vtoc-no (given u) v e h z =
-      let t : v ≡ tableOf 16 x = h ∙ rw (parsed, e) refl in
+      let t : v ≡ tableOf (perOf x) x = h ∙ rw (parsed, e) refl in
       absurd (z (ap (λ (y : VolumeTableOfContents). y .refusal) t))
 
-  pub vtoc-refused : (v : VolumeTableOfContents) → v ≡ parsed 16 x → (v .refusal ≡ 0 → ⊥) → Fields (vtocNumbers x) d d (v .refusal)
-  vtoc-refused v h z = vtoc-no (readable 16 x) v refl h z
+  pub vtoc-refused : (v : VolumeTableOfContents) → v ≡ parsed (perOf x) x → (v .refusal ≡ 0 → ⊥) → Fields (vtocNumbers x) d d (v .refusal)
+  vtoc-refused v h z = vtoc-no (readable (perOf x) x) v refl h z
 
-  vtoc-yes : (p : Outcome (Unit {0})) (v : VolumeTableOfContents) (b : ℕ) → readable 16 x ≡ p → v ≡ parsed 16 x → v .refusal ≡ 0 → b ≡ byteOf 16 x vtoc 49
+  vtoc-yes : (p : Outcome (Unit {0})) (v : VolumeTableOfContents) (b : ℕ) → readable (perOf x) x ≡ p → v ≡ parsed (perOf x) x → v .refusal ≡ 0 → b ≡ byteOf (perOf x) x vtoc 49
       → vtocNumbers x ≡ given (vtocValues v b)
   unfolding vtocNumbers parsed tableOf
   vtoc-yes (refused q) v b e h z k =
       let t : v ≡ blank (code q) = h ∙ rw (parsed, e) refl in
       absurd (omega (arith, code-pos q, ap (λ (y : VolumeTableOfContents). y .refusal) t))
   vtoc-yes (given u) v b e h z k =
-      let t : v ≡ tableOf 16 x = h ∙ rw (parsed, e) refl in
-      rw (vtocNumbers, e) (sym (ap (λ (y : VolumeTableOfContents). given (vtocValues y b)) t ∙ ap (λ (i : ℕ). given (vtocValues (tableOf 16 x) i)) k))
+      let t : v ≡ tableOf (perOf x) x = h ∙ rw (parsed, e) refl in
+      rw (vtocNumbers, e) (sym (ap (λ (y : VolumeTableOfContents). given (vtocValues y b)) t ∙ ap (λ (i : ℕ). given (vtocValues (tableOf (perOf x) x) i)) k))
 
-  pub vtoc-given : (v : VolumeTableOfContents) (b : ℕ) → v ≡ parsed 16 x → v .refusal ≡ 0 → b ≡ byteOf 16 x vtoc 49 → (y o : List ℕ) (r : ℕ)
+  pub vtoc-given : (v : VolumeTableOfContents) (b : ℕ) → v ≡ parsed (perOf x) x → v .refusal ≡ 0 → b ≡ byteOf (perOf x) x vtoc 49 → (y o : List ℕ) (r : ℕ)
       → y ≡ vtocValues v b → Fields (given y) d o r → Fields (vtocNumbers x) d o r
-  vtoc-given v b h z k y o r e u = given-fields (vtocNumbers x) y d o r (vtoc-yes (readable 16 x) v b refl h z k ∙ rw (← e) refl) u
+  vtoc-given v b h z k y o r e u = given-fields (vtocNumbers x) y d o r (vtoc-yes (readable (perOf x) x) v b refl h z k ∙ rw (← e) refl) u
 
 pub bit-yes : (b : Bool) → b ≡ true → _≡_ {A = ℕ} 1 (cond b 1 0)
 bit-yes b e = rw e refl
@@ -217,3 +217,9 @@ module _ (w : Outcome (List ℕ)) (o : List ℕ) (n : ℕ) where
         record { result = rw (p, f) refl; left = rw (p, f) (put-front (placed-put q (omega arith))); length = rw (p, f) refl }
 
 pub ruleset windows = (window-refused, window-short, window-done, needs)
+
+-- ---- direction_byte
+pub direction-at : (d : List ℕ) (r n : ℕ) → n ≡ perOf d → r ≡ byteOf n d vtoc 49 → r ≡ byteOf (perOf d) d vtoc 49
+direction-at d r n e q = rw e at q
+
+pub ruleset directions = (direction-at, needs)

@@ -8,7 +8,7 @@ use lib.Dec.{eqb}
 use Rattle.outcome.specs.declared.Handed.{Handed}
 use Rattle.outcome.specs.Outcome.{Outcome, refused, given, _>>=_, _>>_, number, handed, leftBy}
 use Rattle.disk.specs.declared.VolumeTableOfContents.{VolumeTableOfContents}
-use Rattle.disk.specs.Disk.{byteOf}
+use Rattle.disk.specs.Disk.{perOf, byteOf}
 use Rattle.disk.specs.Vtoc.{vtoc, readable, tableOf}
 use Rattle.files.specs.Survey.{Survey, survey, blocks}
 use Rattle.archive.specs.Archive.{ifAny}
@@ -62,14 +62,14 @@ vtocValues v b =
 
 -- the 13 numbers of a VTOC: 1, 2
 unfoldable pub vtocNumbers : List ℕ → Outcome (List ℕ)
-vtocNumbers d = readable 16 d >> given (vtocValues (tableOf 16 d) (byteOf 16 d vtoc 49))
+vtocNumbers d = let n = perOf d in readable n d >> given (vtocValues (tableOf n d) (byteOf n d vtoc 49))
 
 -- the 7 numbers of a survey: 1 to 6
 abbrev pub surveyFields : Survey → List ℕ
 surveyFields s = s .volume ∷ s .entries ∷ s .free ∷ s .used ∷ s .percentUsed ∷ s .archiveBlocks ∷ s .links ∷ []
 
 unfoldable pub surveyNumbers : List ℕ → Outcome (List ℕ)
-surveyNumbers d = survey 16 d >>= λ s. given (surveyFields s)
+surveyNumbers d = survey (perOf d) d >>= λ s. given (surveyFields s)
 
 -- the 3 numbers of an archive that is opened: 13
 unfoldable pub openNumbers : List ℕ → Outcome (List ℕ)

@@ -2,7 +2,7 @@
 ghost use mathlib.Core.Path.{_≡_};
 ghost use Rattle.outcome.specs.Outcome.{number};
 ghost use mathlib.Core.Bool.{cond};
-ghost use Rattle.disk.specs.Disk.{place, byteOf};
+ghost use Rattle.disk.specs.Disk.{perOf, place, byteOf};
 ghost use Rattle.disk.specs.Vtoc.{vtoc};
 ghost use Rattle.disk.specs.Window.{windowed};
 ghost use Rattle.catalog.specs.Listing.{listed};
@@ -45,7 +45,7 @@ fn tell(h: Handed, length: &mut u64) -> u8
 // The catalog, 37 bytes an entry. 1, 2, pages, 12.
 #[no_mangle]
 pub extern "C" fn dos33_catalog(disk: &[u8], out: &mut [u8], length: &mut u64) -> u8
-    ensures { λ r. ⌜ Exports (listed 16 (now (disk .entry))) (now (out .entry)) (now (out .exit)) (now (length .entry)) (now (length .exit)) r ⌝ }
+    ensures { λ r. ⌜ Exports (listed (perOf (now (disk .entry))) (now (disk .entry))) (now (out .entry)) (now (out .exit)) (now (length .entry)) (now (length .exit)) r ⌝ }
 {
     let answer = catalog::parse_catalogs(disk, out);
     tell(answer.handed, length)
@@ -54,7 +54,7 @@ pub extern "C" fn dos33_catalog(disk: &[u8], out: &mut [u8], length: &mut u64) -
 // The track/sector lists of an entry, two bytes each. 1 to 6, 12.
 #[no_mangle]
 pub extern "C" fn dos33_lists(disk: &[u8], entry: u64, out: &mut [u8], length: &mut u64) -> u8
-    ensures { λ r. ⌜ Exports (listsOfNumber 16 (now (disk .entry)) entry) (now (out .entry)) (now (out .exit)) (now (length .entry)) (now (length .exit)) r ⌝ }
+    ensures { λ r. ⌜ Exports (listsOfNumber (perOf (now (disk .entry))) (now (disk .entry)) entry) (now (out .entry)) (now (out .exit)) (now (length .entry)) (now (length .exit)) r ⌝ }
 {
     let answer = files::track_sector_lists(disk, entry, out);
     tell(answer, length)
@@ -69,7 +69,7 @@ pub extern "C" fn dos33_pairs(
     out: &mut [u8],
     length: &mut u64,
 ) -> u8
-    ensures { λ r. ⌜ Exports (pairBytes 16 (now (disk .entry)) (place track sector)) (now (out .entry)) (now (out .exit)) (now (length .entry)) (now (length .exit)) r ⌝ }
+    ensures { λ r. ⌜ Exports (pairBytes (perOf (now (disk .entry))) (now (disk .entry)) (place track sector)) (now (out .entry)) (now (out .exit)) (now (length .entry)) (now (length .exit)) r ⌝ }
 {
     let answer = files::track_sector_pairs(disk, Track(track), Sector(sector), out);
     tell(answer, length)
@@ -84,7 +84,7 @@ pub extern "C" fn dos33_pair_run(
     run: &mut [TrackSectorPair],
     length: &mut u64,
 ) -> u8
-    ensures { λ r. ⌜ Exports (pairRun 16 (now (disk .entry)) (place track sector)) (now (run .entry)) (now (run .exit)) (now (length .entry)) (now (length .exit)) r ⌝ }
+    ensures { λ r. ⌜ Exports (pairRun (perOf (now (disk .entry))) (now (disk .entry)) (place track sector)) (now (run .entry)) (now (run .exit)) (now (length .entry)) (now (length .exit)) r ⌝ }
 {
     let answer = pairs::pair_run(disk, track, sector, run);
     tell(answer, length)
@@ -93,7 +93,7 @@ pub extern "C" fn dos33_pair_run(
 // The bytes of an entry. 1 to 6, 12.
 #[no_mangle]
 pub extern "C" fn dos33_file(disk: &[u8], entry: u64, out: &mut [u8], length: &mut u64) -> u8
-    ensures { λ r. ⌜ Exports (fileOfNumber 16 (now (disk .entry)) entry) (now (out .entry)) (now (out .exit)) (now (length .entry)) (now (length .exit)) r ⌝ }
+    ensures { λ r. ⌜ Exports (fileOfNumber (perOf (now (disk .entry))) (now (disk .entry)) entry) (now (out .entry)) (now (out .exit)) (now (length .entry)) (now (length .exit)) r ⌝ }
 {
     let answer = files::file(disk, entry, out);
     tell(answer, length)
@@ -102,7 +102,7 @@ pub extern "C" fn dos33_file(disk: &[u8], entry: u64, out: &mut [u8], length: &m
 // The bytes of the last entry with that shown name. 1 to 6, 18, 12.
 #[no_mangle]
 pub extern "C" fn dos33_fetch(disk: &[u8], name: &[u8], out: &mut [u8], length: &mut u64) -> u8
-    ensures { λ r. ⌜ Exports (fetched 16 (now (disk .entry)) (now (name .entry))) (now (out .entry)) (now (out .exit)) (now (length .entry)) (now (length .exit)) r ⌝ }
+    ensures { λ r. ⌜ Exports (fetched (perOf (now (disk .entry))) (now (disk .entry)) (now (name .entry))) (now (out .entry)) (now (out .exit)) (now (length .entry)) (now (length .exit)) r ⌝ }
 {
     let answer = files::fetch(disk, name, out);
     tell(answer, length)
@@ -111,7 +111,7 @@ pub extern "C" fn dos33_fetch(disk: &[u8], name: &[u8], out: &mut [u8], length: 
 // The disk's archive. 1 to 6, 7, 12.
 #[no_mangle]
 pub extern "C" fn dos33_archive_write(disk: &[u8], out: &mut [u8], length: &mut u64) -> u8
-    ensures { λ r. ⌜ Exports (archiveOf 16 (now (disk .entry))) (now (out .entry)) (now (out .exit)) (now (length .entry)) (now (length .exit)) r ⌝ }
+    ensures { λ r. ⌜ Exports (archiveOf (perOf (now (disk .entry))) (now (disk .entry))) (now (out .entry)) (now (out .exit)) (now (length .entry)) (now (length .exit)) r ⌝ }
 {
     let answer = writer::write_archive(disk, out);
     tell(answer, length)
@@ -120,7 +120,7 @@ pub extern "C" fn dos33_archive_write(disk: &[u8], out: &mut [u8], length: &mut 
 // The archive is the disk's. 1 to 6, 7, 13.
 #[no_mangle]
 pub extern "C" fn dos33_archive_check(disk: &[u8], archive: &[u8]) -> u8
-    ensures { λ r. ⌜ r ≡ number (check 16 (now (disk .entry)) (now (archive .entry))) ⌝ }
+    ensures { λ r. ⌜ r ≡ number (check (perOf (now (disk .entry))) (now (disk .entry)) (now (archive .entry))) ⌝ }
 {
     writer::check_archive(disk, archive)
 }
@@ -304,13 +304,13 @@ fn put_fields(values: &[u64], fields: &mut [u64]) -> u8
 
 // The direction of a VTOC as its byte.
 fn direction_byte(disk: &[u8]) -> u8
-    ensures { λ r. ⌜ r ≡ byteOf 16 (now (disk .entry)) vtoc 49 ⌝ }
+    ensures { λ r. ⌜ r ≡ byteOf (perOf (now (disk .entry))) (now (disk .entry)) vtoc 49 ⌝ }
 {
     let table = Place {
         track: Track(17),
         sector: Sector(0),
     };
-    disk::byte_of(disk, 16, table, 49)
+    disk::byte_of(disk, disk::sectors_of(disk), table, 49)
 }
 
 // Thirteen numbers as elements.

@@ -6,7 +6,7 @@ ghost use Prim.Native.Nat.{ℕ, _+_, _-_, _*_, _%_, _<_, _≤_, min};
 ghost use lib.Dec.{eqb};
 ghost use lib.ListN.{length, getD, take, drop};
 ghost use Rattle.lists.specs.Fill.{placed, below};
-ghost use Rattle.disk.specs.Disk.{sectors};
+ghost use Rattle.disk.specs.Disk.{perOf, sectors};
 ghost use Rattle.catalog.specs.Catalog.{entryFrom, entriesOf, firstPage};
 ghost use Rattle.files.specs.Copies.{cutOf, Copied, Roomy, Whole, CopiedAll, listOf, walkOf};
 ghost use Rattle.archive.specs.Archive.{dataBlock, firstBlock, Wrote, Checked};
@@ -27,6 +27,7 @@ use disk::Track;
 use disk::chain_budget;
 use disk::link_of;
 use disk::sector_start;
+use disk::sectors_of;
 use files::last_list;
 use files::parse_track_sector_pair;
 use files::survey;
@@ -556,8 +557,8 @@ fn emit_all(
     total: u32,
     out: &mut [u8],
 ) -> Mark
-    requires { ⌜ Walked 16 (now disk) (firstPage 16 (now disk)) × (total ≤ 4096) ⌝ }
-    ensures { λ r. ⌜ MadeAll (walkMade write (now (archive .entry)) 16 (now (disk .entry)) total (stepped write (now (archive .entry)) (passOf freshMark (now (out .entry))) (firstBlock volume (cond (eqb total 1) 0 1) total)) (firstPage 16 (now (disk .entry)))) r (now (out .exit)) ⌝ }
+    requires { ⌜ Walked (perOf (now disk)) (now disk) (firstPage (perOf (now disk)) (now disk)) × (total ≤ 4096) ⌝ }
+    ensures { λ r. ⌜ MadeAll (walkMade write (now (archive .entry)) (perOf (now (disk .entry))) (now (disk .entry)) total (stepped write (now (archive .entry)) (passOf freshMark (now (out .entry))) (firstBlock volume (cond (eqb total 1) 0 1) total)) (firstPage (perOf (now (disk .entry))) (now (disk .entry)))) r (now (out .exit)) ⌝ }
 {
     let block = first_block(volume, first_entry(total), total as u16);
     let start = Mark {
@@ -565,13 +566,14 @@ fn emit_all(
         good: true,
     };
     let m = emit(write, archive, &block, start, out);
+    let per = sectors_of(disk);
     emit_pages(
         write,
         archive,
         disk,
-        16,
+        per,
         total,
-        first_page(disk, 16),
+        first_page(disk, per),
         m,
         out,
     )

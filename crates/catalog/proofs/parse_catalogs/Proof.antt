@@ -6,16 +6,8 @@ pub parse-catalogs-spec : {M : Type 1} → statement M
 parse-catalogs-spec =
     tie.close
     (tie.spec
-    (λ c κs. search calls)  -- count-pages-requires
-    (λ c κs. search calls)  -- no-listing-requires
-    (λ c. search calls)  -- returns
-    (λ c. search calls)  -- cast-size
-    (λ c. search calls)  -- mul-size
-    (λ c κs. search calls)  -- no-listing-requires-2
-    (λ c. search calls)  -- returns-2
-    (λ c κs. search calls)  -- first-page-requires
-    (λ c κs. search calls)  -- write-pages-requires
-    (λ c κs. search calls)  -- accepted-requires
+    (λ c κs. search calls)  -- sectors-of-requires
+    (λ c κs. search calls)  -- catalogs-of-requires
     (λ c. search calls)  -- same-length
-    (λ c. search calls)  -- returns-3
+    (λ c. search calls)  -- returns
     )

@@ -1,4 +1,3 @@
-use borrow.Author.Needs.{needs}
 use Rattle.disk.proofs.Numbers.{checks}
 use Rattle.disk.proofs.valid_table.Statement.{statement}
 use Rattle.disk.proofs.valid_table.Tie as tie

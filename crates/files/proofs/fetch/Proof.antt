@@ -3,15 +3,10 @@ use Rattle.files.proofs.fetch.Statement.{statement}
 use Rattle.files.proofs.fetch.Tie as tie
 
 pub fetch-spec : {M : Type 1} → statement M
-fetch-spec =
-    tie.close
+fetch-spec = tie.close
     (tie.spec
-    (λ c κs. search fetchCalls)  -- go-through-requires
-    (λ c κs. search fetchCalls)  -- refused-requires
-    (λ c. search fetchCalls)  -- returns
-    (λ c κs. search fetchCalls)  -- refused-requires-2
-    (λ c. search fetchCalls)  -- returns-2
-    (λ c κs. search fetchCalls)  -- get-data-requires
+    (λ c κs. search fetchCalls)  -- sectors-of-requires
+    (λ c κs. search fetchCalls)  -- fetch-of-requires
     (λ c. search fetchCalls)  -- same-length
-    (λ c. search fetchCalls)  -- returns-3
+    (λ c. search fetchCalls)  -- returns
     )

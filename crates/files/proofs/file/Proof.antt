@@ -3,16 +3,10 @@ use Rattle.files.proofs.file.Statement.{statement}
 use Rattle.files.proofs.file.Tie as tie
 
 pub file-spec : {M : Type 1} → statement M
-file-spec =
-    tie.close
+file-spec = tie.close
     (tie.spec
-    (λ c. search fileCalls)  -- slice-aggregate-go-through
-    (λ c κs. search fileCalls)  -- go-through-requires
-    (λ c κs. search fileCalls)  -- refused-requires
-    (λ c. search fileCalls)  -- returns
-    (λ c κs. search fileCalls)  -- accepted-requires
-    (λ c. search fileCalls)  -- returns-2
-    (λ c κs. search fileCalls)  -- get-data-requires
+    (λ c κs. search fileCalls)  -- sectors-of-requires
+    (λ c κs. search fileCalls)  -- file-of-requires
     (λ c. search fileCalls)  -- same-length
-    (λ c. search fileCalls)  -- returns-3
+    (λ c. search fileCalls)  -- returns
     )

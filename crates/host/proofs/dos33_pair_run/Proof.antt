@@ -104,7 +104,7 @@ module _ {M : Type 1} (𝓤 : URA M) (H : Heap 𝓤) (A : Atoms 𝓤) (W : Given
   S = ShrSlice (named 0) κ u8
 
   abbrev due : Outcome (List TrackSectorPair)
-  due = pairRun 16 (disk .now) (Disk.place tr se)
+  due = pairRun (Disk.perOf (disk .now)) (disk .now) (Disk.place tr se)
 
   exits : (g : Handed) (zs : List TrackSectorPair) (m r : ℕ) (v : Val) → Hands due (x .now) zs g → Told g (y .now) m r → length zs ≡ length (x .now)
       → ent 𝓤 (⋆ 𝓤 H A ((‵ (flft κ q) ⊛ ‵ (flft κ′ q′) ⊛ ‵ ftrue) ∷ (‵ (flft κ″ q″) ⊛ ‵ ftrue) ∷ ‵ (finally R (x .name) zs) ∷ ‵ (fres (y .name) (u64 .coded .code m)) ∷ ‵ (S .own disk (s′ ∷ [])) ∷ ‵ (u8 .own r (v ∷ [])) ∷ [])) (Post v)

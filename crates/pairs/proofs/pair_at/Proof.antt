@@ -3,11 +3,9 @@ use Rattle.pairs.proofs.pair_at.Statement.{statement}
 use Rattle.pairs.proofs.pair_at.Tie as tie
 
 pub pair-at-spec : {M : Type 1} → statement M
-pair-at-spec =
-    tie.close
+pair-at-spec = tie.close
     (tie.spec
+    (λ c κs. search answers)  -- sectors-of-requires
+    (λ c κs. search answers)  -- pair-of-requires
     (λ c. search answers)  -- returns
-    (λ c. search answers)  -- cast-parse-track-sector-pair
-    (λ c κs. search answers)  -- parse-track-sector-pair-requires
-    (λ c. search answers)  -- returns-2
     )

@@ -125,7 +125,7 @@ module _ {M : Type 1} (𝓤 : URA M) (H : Heap 𝓤) (A : Atoms 𝓤) (W : Given
 
   -- what is answered for such a run, how many are stored, and which
   abbrev due : Outcome (List TrackSectorPair)
-  due = fitting n (pairRun 16 (disk .now) p)
+  due = fitting n (pairRun (Disk.perOf (disk .now)) (disk .now) p)
 
   abbrev m : ℕ
   m = answerOf due .length
@@ -134,7 +134,7 @@ module _ {M : Type 1} (𝓤 : URA M) (H : Heap 𝓤) (A : Atoms 𝓤) (W : Given
   ws = handsOver due
 
   ws-fits : length ws ≤ n
-  ws-fits = count-fits n (pairRun 16 (disk .now) p)
+  ws-fits = count-fits n (pairRun (Disk.perOf (disk .now)) (disk .now) p)
 
   m-le : m ≤ n
   m-le = omega (arith, count-is due, ws-fits)
@@ -212,8 +212,8 @@ module _ {M : Type 1} (𝓤 : URA M) (H : Heap 𝓤) (A : Atoms 𝓤) (W : Given
   asked : (i : ℕ) → ent 𝓤 (onEntry 𝓤 H A pair-at.signature (κ, tt) (q, tt) (disk, (tr, (se, (i, tt)))) (passed i)) (PairAt 𝓤 H A mem run .pre (to i))
   asked i = qed W ((‵ (flft κ q) ⊛ ‵ ftrue) ∷ ‵ (owns (ShrSlice (named 0) κ u8 ∷ u8 ∷ u8 ∷ usize ∷ []) (disk, (tr, (se, (i, tt)))) (passed i)) ∷ []) ∵ join ! $ frame ! $ ended !
 
-  said : (i : ℕ) (r : TrackSectorPair) → ent 𝓤 (ensured 𝓤 H A pair-at.ended (pair-at.clauses 𝓤 H A mem run) (κ, tt) (disk, (tr, (se, (i, tt)))) tt r) (fact 𝓤 (r ≡ pairIn 16 (disk .now) p i))
-  said i r = exE 𝓤 _ (λ ws. snd∗ 𝓤 (sem 𝓤 H A (lasts pair-at.ended (κ, tt) (disk, (tr, (se, (i, tt)))) ws)) (fact 𝓤 (r ≡ pairIn 16 (disk .now) p i)))
+  said : (i : ℕ) (r : TrackSectorPair) → ent 𝓤 (ensured 𝓤 H A pair-at.ended (pair-at.clauses 𝓤 H A mem run) (κ, tt) (disk, (tr, (se, (i, tt)))) tt r) (fact 𝓤 (r ≡ pairIn (Disk.perOf (disk .now)) (disk .now) p i))
+  said i r = exE 𝓤 _ (λ ws. snd∗ 𝓤 (sem 𝓤 H A (lasts pair-at.ended (κ, tt) (disk, (tr, (se, (i, tt)))) ws)) (fact 𝓤 (r ≡ pairIn (Disk.perOf (disk .now)) (disk .now) p i)))
 
   abbrev to-answer : Answer 𝓤 H A mem run .Ghost
   to-answer = (((κ, tt), (q, tt), tt, (disk, (tr, (se, (n, tt)))), passed n), tt)
@@ -266,7 +266,7 @@ module _ {M : Type 1} (𝓤 : URA M) (H : Heap 𝓤) (A : Atoms 𝓤) (W : Given
         -- [the callee's pre; the disk's; the row; _7; _9; _10; _11; _12; _4; _1; _2; _3; …]
         calls-at ! (fmOf 𝓤 H (W .laws) 𝓣) (PairAt 𝓤 H A mem run) known (to (i .0)) (and-then ! (load ! (from ! (stop !)) (look ! 9 refl)) (and-then ! (load ! (from ! (stop !)) (look ! 10 refl)) (and-then ! (load ! (from ! (stop !)) (look ! 11 refl)) (and-then ! (load ! (from ! (stop !)) (look ! 3 refl)) (no-more !))))) (λ u.
         use1 W (later (some (λ (r : TrackSectorPair). ((‵ (flft κ q) ⊛ ‵ ftrue) ⊛ ‵ (R .own r (u ∷ []))) ⊛ raw (ensured 𝓤 H A pair-at.ended (pair-at.clauses 𝓤 H A mem run) (κ, tt) (disk, (tr, (se, (i .0, tt)))) tt r)))) (id⊢ 𝓤 _) $ await ! tt $ pick ! (λ r.
-        split ! $ move ! (1 ∷ []) $ use1 W (raw (fact 𝓤 (r ≡ pairIn 16 (disk .now) p (i .0)))) (said (i .0) r) $ heard ! (r ≡ pairIn 16 (disk .now) p (i .0)) (λ e. split ! $ move ! (1 ∷ []) $
+        split ! $ move ! (1 ∷ []) $ use1 W (raw (fact 𝓤 (r ≡ pairIn (Disk.perOf (disk .now)) (disk .now) p (i .0)))) (said (i .0) r) $ heard ! (r ≡ pairIn (Disk.perOf (disk .now)) (disk .now) p (i .0)) (λ e. split ! $ move ! (1 ∷ []) $
         -- [the result's; the token; the disk's; the row; _7; _9; _10; _11; _12; _4; …]
         peeks ! R (Is R) (shows 𝓤 H A R) r (u ∷ []) (λ is.
         land ! (from ! (stop !)) (init ! 6 refl (LL.lawful T.the-type T′.the-laws 𝓤 H A W .typed r _ is .0)) $
@@ -278,7 +278,7 @@ module _ {M : Type 1} (𝓤 : URA M) (H : Heap 𝓤) (A : Atoms 𝓤) (W : Given
         -- [the element; what it owns; the others; the result's; the token; the disk's; _7; _9; _10; _11; _12; …]
         assigns ! (of-opd ! (load ! (from ! (stop !)) (look ! 8 refl))) (from ! (hop ! (look ! 10 refl) (stop !))) (store-raw ! 0 refl (LL.lawful T.the-type T′.the-laws 𝓤 H A W .typed r _ is .0)) $
         move ! (1 ∷ []) $ drop ! $ move ! (0 ∷ 2 ∷ 1 ∷ []) $ elem-put ! R fullShare (stored (i .0) ws ys) (i .0) r (u ∷ []) b o (within less) $
-        rewrite ! 0 (λ (l : List TrackSectorPair). ‵ (row R fullShare l b o)) (stored-more (i .0) ws ys ws-fits (asPair (pairAt 16 (disk .now) p 0)) r (omega (arith, count-is due, ltb→lt (i .0) m less)) (e ∙ pair-is (disk .now) p (i .0) n (ltb→lt (i .0) m less))) refl $
+        rewrite ! 0 (λ (l : List TrackSectorPair). ‵ (row R fullShare l b o)) (stored-more (i .0) ws ys ws-fits (asPair (pairAt (Disk.perOf (disk .now)) (disk .now) p 0)) r (omega (arith, count-is due, ltb→lt (i .0) m less)) (e ∙ pair-is (Disk.perOf (disk .now)) (disk .now) p (i .0) n (ltb→lt (i .0) m less))) refl $
         -- [the row; the token; the disk's; _7; _9; _10; _11; _12; …]
         assigns-last ! (bin ! (load ! (from ! (stop !)) (look ! 3 refl)) (lit ! tt) (record { fits = fits (next less) })) (from ! (stop !)) (store ! 3 refl (tt, record { fits = fits (next less) })) $
         forget ! 4 refl $ forget ! 5 refl $ forget ! 6 refl $ forget ! 7 refl $

@@ -3,18 +3,9 @@ use Rattle.pairs.proofs.run_answer.Statement.{statement}
 use Rattle.pairs.proofs.run_answer.Tie as tie
 
 pub run-answer-spec : {M : Type 1} → statement M
-run-answer-spec =
-    tie.close
+run-answer-spec = tie.close
     (tie.spec
-    (λ c κs. search answers)  -- refused-requires
+    (λ c κs. search answers)  -- sectors-of-requires
+    (λ c κs. search answers)  -- answer-of-requires
     (λ c. search answers)  -- returns
-    (λ c κs. search answers)  -- on-disk-requires
-    (λ c κs. search answers)  -- refused-requires-2
-    (λ c. search answers)  -- returns-2
-    (λ c κs. search answers)  -- parse-track-sector-list-requires
-    (λ c. search answers)  -- cast-count
-    (λ c κs. search answers)  -- refused-requires-3
-    (λ c. search answers)  -- returns-3
-    (λ c κs. search answers)  -- accepted-requires
-    (λ c. search answers)  -- returns-4
     )

@@ -165,7 +165,7 @@ module _ {M : Type 1} (𝓤 : URA M) (H : Heap 𝓤) (A : Atoms 𝓤) (W : Given
   S = ShrSlice (named 0) κ u8
 
   abbrev due : Outcome (List TrackSectorPair)
-  due = pairRun 16 (disk .now) (Disk.place tr se)
+  due = pairRun (Disk.perOf (disk .now)) (disk .now) (Disk.place tr se)
 
   exits : (g : Handed) (zs : List TrackSectorPair) → Hands due ys zs g → Is F.the-row (result g zs) (rv g zs ∷ []) → ent 𝓤 (⋆ 𝓤 H A (‵ (flft κ q) ∷ ‵ (S .own disk (s′ ∷ [])) ∷ [])) (Post (rv g zs))
   exits g zs h is =

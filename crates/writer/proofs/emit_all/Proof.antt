@@ -11,6 +11,7 @@ emit-all-spec =
     (λ c κs. search alls)  -- first-block-requires
     (λ c. search alls)  -- slice-aggregate-emit
     (λ c κs. search alls)  -- emit-requires
+    (λ c κs. search alls)  -- sectors-of-requires
     (λ c κs. search alls)  -- first-page-requires
     (λ c κs. search alls)  -- emit-pages-requires
     (λ c. search alls)  -- same-length
