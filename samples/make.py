@@ -6,35 +6,42 @@ HERE = os.path.dirname(os.path.abspath(__file__))
 PAIRS = 121  # pairs that are written to one list
 
 
+# A disk of 35 tracks by 16 sectors (DOS 3.3), or by 13 (DOS 3.2).
 class Disk:
-    def __init__(self, volume, pages, first_free=3):
-        self.d = bytearray(143360)
-        v = self.vtoc = 17 * 4096
-        self.d[v + 1], self.d[v + 2], self.d[v + 3], self.d[v + 6] = 17, 15, 3, volume
+    def __init__(self, volume, pages, first_free=3, per=16):
+        self.per = per
+        self.d = bytearray(35 * per * 256)
+        v = self.vtoc = 17 * per * 256
+        self.d[v + 1], self.d[v + 2], self.d[v + 3], self.d[v + 6] = 17, per - 1, 3 if per == 16 else 2, volume
         self.d[v + 39], self.d[v + 48], self.d[v + 49] = 122, 18, 1
-        self.d[v + 52], self.d[v + 53], self.d[v + 55] = 35, 16, 1
+        self.d[v + 52], self.d[v + 53], self.d[v + 55] = 35, per, 1
         for t in range(first_free, 35):
-            for s in range(16):
+            for s in range(per):
                 self.map(t, s, True)
         self.map(17, 0, False)
-        self.pages = [(17, 15 - k) for k in range(pages)]
+        self.pages = [(17, per - 1 - k) for k in range(pages)]
         for k, p in enumerate(self.pages):
             self.map(*p, False)
             if k + 1 < pages:
                 self.link(p, self.pages[k + 1])
         self.entries = 0
 
+    # The byte of the VTOC's map that has a sector, and its bit there. The highest sector has the highest bit of the track's first byte.
+    def in_map(self, t, s):
+        bit = s + 16 - self.per
+        return self.vtoc + 56 + 4 * t + (0 if bit > 7 else 1), 1 << (bit % 8)
+
     # A sector is free (True) or used in the VTOC's map.
     def map(self, t, s, free):
-        at = self.vtoc + 56 + 4 * t + (0 if s > 7 else 1)
-        bit = 1 << (s % 8)
+        at, bit = self.in_map(t, s)
         self.d[at] = self.d[at] | bit if free else self.d[at] & ~bit
 
     def is_free(self, t, s):
-        return self.d[self.vtoc + 56 + 4 * t + (0 if s > 7 else 1)] >> (s % 8) & 1 == 1
+        at, bit = self.in_map(t, s)
+        return self.d[at] & bit != 0
 
     def put(self, p, at, data):
-        start = 4096 * p[0] + 256 * p[1] + at
+        start = 256 * (self.per * p[0] + p[1]) + at
         self.d[start:start + len(data)] = data
 
     def link(self, p, q):
@@ -43,7 +50,7 @@ class Disk:
     # The next free sector, as DOS takes them: from the catalog outwards, the highest sector of a track first. A list does not stand on a sector 0.
     def take(self, for_list=False):
         for t in list(range(18, 35)) + list(range(16, 2, -1)):
-            for s in range(15, 0 if for_list else -1, -1):
+            for s in range(self.per - 1, 0 if for_list else -1, -1):
                 if self.is_free(t, s):
                     self.map(t, s, False)
                     return (t, s)
@@ -60,7 +67,7 @@ class Disk:
 
     # An entry that was deleted: list track FFh, the old one in the name's last byte.
     def deleted(self, name):
-        self.entry(name, 4, (255, 15), 2)
+        self.entry(name, 4, (255, self.per - 1), 2)
         page = self.pages[(self.entries - 1) // 7]
         self.put(page, 11 + 35 * ((self.entries - 1) % 7) + 32, bytes([18]))
 
@@ -184,6 +191,21 @@ def overlong():
     return d
 
 
+# The same files on a disk of 13 sectors a track and on one of 16.
+def two_editions(per):
+    d = Disk(32, 2, per=per)
+    d.file('HELLO', 1, bytes(range(200)), locked=True)
+    d.file('LINE 2 RING 1', 4, binary(line(31, 700)), locked=True)
+    d.file('LINE 2 RINGS 2 TO 2603', 4, binary(line(32, 31232)))
+    d.deleted('LINE 2 OLD')
+    d.file('LINE 2 STATIONS', 4, binary(line(33, 252)))
+    d.file('SHIFT NOTES', 0, text('RING 9 GROUTED', 'PUMP 2 CHANGED'))
+    d.file('LINE 2 SHAFTS', 4, binary(line(34, 1400)))
+    d.file('LINE 2 PORTALS', 4, binary(line(35, 96)))
+    d.file('LINE 2 CROSSOVERS', 4, binary(line(36, 2000)), locked=True, pairs=5)
+    return d
+
+
 # A flat disk as nibbles (document 01: the nibble writer).
 WRITE = [0x96, 0x97, 0x9A, 0x9B, 0x9D, 0x9E, 0x9F, 0xA6, 0xA7, 0xAB, 0xAC, 0xAD, 0xAE, 0xAF, 0xB2, 0xB3,
          0xB4, 0xB5, 0xB6, 0xB7, 0xB9, 0xBA, 0xBB, 0xBC, 0xBD, 0xBE, 0xBF, 0xCB, 0xCD, 0xCE, 0xCF, 0xD3,
@@ -221,6 +243,41 @@ def nibbles(d):
     return bytes(out)
 
 
+# A disk of 13 sectors a track as nibbles (document 02: 5-and-3). WRITE_13 are the bytes from ABh up that have no two zero bits in a row, without D5h.
+WRITE_13 = [b for b in range(0xAB, 256) if b != 0xD5 and '00' not in bin(b)]
+
+
+# 256 bytes go into 154 values of low bits, the last first, and 256 values of the high five.
+def coded_13(b):
+    high = [0] * 256
+    low = [0] * 154
+    for n in range(51):
+        five = b[5 * n:5 * n + 5]
+        k = 50 - n
+        for r in range(5):
+            high[k + 51 * r] = five[r] >> 3
+        for r in range(3):
+            low[k + 51 * r] = (five[r] & 7) << 2 | (five[3] >> (2 - r) & 1) << 1 | five[4] >> (2 - r) & 1
+    high[255] = b[255] >> 3
+    low[153] = b[255] & 7
+    values = low[::-1] + high
+    steps = [values[0]] + [values[k] ^ values[k - 1] for k in range(1, 410)] + [values[409]]
+    return bytes(WRITE_13[s] for s in steps)
+
+
+# The sectors of a track lie ten apart: 0, 10, 7, 4, 1 and so on.
+def nibbles_13(d):
+    volume = d[17 * 3328 + 6]
+    out = bytearray()
+    for t in range(35):
+        for k in range(13):
+            s = 10 * k % 13
+            start = 256 * (13 * t + s)
+            out += b'\xff' * 40 + b'\xd5\xaa\xb5' + four(volume) + four(t) + four(s) + four(volume ^ t ^ s) + b'\xde\xaa\xeb'
+            out += b'\xff' * 9 + b'\xd5\xaa\xad' + coded_13(d[start:start + 256]) + b'\xde\xaa\xeb'
+    return bytes(out)
+
+
 def main():
     one_page().write('one-page.dsk')
     several_pages().write('several-pages.dsk')
@@ -231,6 +288,10 @@ def main():
     overlong().write('overlong.dsk')
     with open(os.path.join(HERE, 'one-page.nib'), 'wb') as f:
         f.write(nibbles(one_page().d))
+    two_editions(13).write('thirteen.dsk')
+    two_editions(16).write('same-files.dsk')
+    with open(os.path.join(HERE, 'thirteen.nib'), 'wb') as f:
+        f.write(nibbles_13(two_editions(13).d))
 
 
 main()

@@ -79,11 +79,15 @@ damaged() {
     patch "$file" "$@"
 }
 
-# at TRACK SECTOR BYTE: a place on a flat disk.
+# at TRACK SECTOR BYTE: a place on a flat disk of 16 sectors a track; at_13 the same on one of 13.
 at() { echo $((4096 * $1 + 256 * $2 + $3)); }
+at_13() { echo $((3328 * $1 + 256 * $2 + $3)); }
 
 # nib TRACK SECTOR BYTE: a place in a stream, by address sector. The address is at byte 48, the data at byte 70 of 416.
 nib() { echo $((416 * (16 * $1 + $2) + $3)); }
+
+# nib_13 TRACK SECTOR BYTE: the same in the stream of 13, whose sectors lie ten apart. The address is at byte 40, the data at byte 66 of 480.
+nib_13() { echo $((480 * (13 * $1 + 4 * $2 % 13) + $3)); }
 
 # tidy: nothing but what is named lies in the folder `outs`.
 tidy() { [ "$(ls -A outs | tr '\n' ' ')" = "$*" ]; }
@@ -222,6 +226,176 @@ patch stranger.nib "$(nib 2 0 57)" ff ff
 same denibblize-stranger denibblize stranger.nib outs/none
 holds denibblize-nothing-left not test -e outs/none
 
+# 13 sectors a track, flat and as a stream: list, survey, map
+rm -f outs/*
+same list-thirteen list samples/thirteen.dsk
+holds list-thirteen-plain plain out
+sed 1d out >listed
+same list-thirteen-nibbles list samples/thirteen.nib
+holds list-thirteen-nibbles-equal diff listed <(sed 1d out)
+same list-same-files list samples/same-files.dsk
+sed 1d out >listed-same
+files_of() { sed -n '/^Files/,$p' "$1" | grep -v '^   *list '; }
+holds list-same-files-equal diff <(files_of listed | sed '$d') <(files_of listed-same | sed '$d')
+same survey-thirteen survey samples/thirteen.dsk
+cp out surveyed
+same survey-thirteen-nibbles survey samples/thirteen.nib
+same map-thirteen map samples/thirteen.dsk
+holds map-thirteen-plain plain out
+cp out mapped
+# counted FILE: the sum of the counts under a map, those of the small letters left out.
+counted() { sed -n 's/^ *\([0-9]*\)   [VCLDX.#]   .*/\1/p' "$1" | awk '{ n += $1 } END { print n }'; }
+holds map-thirteen-455 test "$(counted mapped)" = 455
+same map-thirteen-nibbles map samples/thirteen.nib
+run map samples/same-files.dsk
+holds map-same-files-560 test "$(counted out)" = 560
+
+# the map's three lowest bits are no sector's; the bit above them is sector 0's, and the highest sector 12's
+damaged low-bits.dsk thirteen.dsk "$(at_13 17 0 $((57 + 4 * 3)))" ff
+run survey low-bits.dsk
+holds low-bits-survey diff <(sed 1d surveyed) <(sed 1d out)
+run map low-bits.dsk
+holds low-bits-map diff <(sed 1d mapped) <(sed 1d out)
+patch low-bits.dsk "$(at_13 17 0 $((56 + 4 * 3)))" 80 08
+patch low-bits.dsk "$(at_13 17 0 $((56 + 4 * 18)))" 80 10
+same map-thirteen-bits map low-bits.dsk
+
+# one damaged disk of 13 for each refusal; a sector above 12 is off the disk
+damaged no-table.dsk thirteen.dsk "$(at_13 17 0 53)" 10
+same list-thirteen-no-table list no-table.dsk
+same archive-thirteen-no-table archive no-table.dsk outs/none
+patch no-table.dsk "$(at_13 17 0 52)" 24 0d
+same list-thirteen-tracks list no-table.dsk
+patch no-table.dsk "$(at_13 17 0 52)" 28
+run survey no-table.dsk
+holds survey-thirteen-40-tracks diff <(sed 1d surveyed) <(sed 1d out)
+damaged first-page-off.dsk thirteen.dsk "$(at_13 17 0 2)" 0d
+same list-thirteen-first-page-off list first-page-off.dsk
+damaged page-off.dsk thirteen.dsk "$(at_13 17 12 2)" 0d
+same list-thirteen-page-off list page-off.dsk
+damaged bad-letter.dsk thirteen.dsk "$(at_13 17 11 $((11 + 35 + 3 + 4)))" 80
+same list-thirteen-bad-letter list bad-letter.dsk
+damaged list-off.dsk thirteen.dsk "$(at_13 17 12 $((11 + 4 * 35 + 1)))" 0d
+same list-thirteen-list-off list list-off.dsk
+damaged link-off.dsk thirteen.dsk "$(at_13 18 6 1)" 1b 0d
+same list-thirteen-link-off list link-off.dsk
+damaged pair-off.dsk thirteen.dsk "$(at_13 27 1 14)" 1b 0d
+same list-thirteen-pair-off list pair-off.dsk
+damaged ring.dsk thirteen.dsk "$(at_13 27 1 1)" 12 06
+same list-thirteen-ring list ring.dsk
+damaged ring-of-pages.dsk thirteen.dsk "$(at_13 17 11 1)" 11 0c
+same list-thirteen-ring-of-pages list ring-of-pages.dsk
+damaged cut-link.dsk thirteen.dsk "$(at_13 29 11 2)" 00
+same list-thirteen-cut-link list cut-link.dsk
+
+# a disk of 143,360 bytes stays one of 16 sectors a track, also where its VTOC says 13
+damaged says-13.dsk same-files.dsk "$(at 17 0 53)" 0d
+run list says-13.dsk
+holds list-says-13 diff listed-same <(sed 1d out)
+
+# 13 sectors a track: get, archive, check, show
+same get-thirteen get samples/thirteen.dsk 'LINE 2 STATIONS' outs/stations
+dd if=samples/thirteen.dsk of=wanted bs=1 skip="$(at_13 28 10 4)" count=252 status=none
+holds get-thirteen-bytes cmp wanted outs/stations
+same get-thirteen-nibbles get samples/thirteen.nib 'LINE 2 RINGS 2 TO 2603' outs/rings
+"$root/linefiles" get samples/same-files.dsk 'LINE 2 RINGS 2 TO 2603' outs/rings-16 >/dev/null
+holds get-thirteen-nibbles-bytes cmp outs/rings outs/rings-16
+same get-thirteen-deleted get samples/thirteen.dsk 'LINE 2 OLD' outs/none
+same archive-thirteen archive samples/thirteen.dsk outs/13.arc
+holds archive-thirteen-bytes sum_is outs/13.arc cae3d31b43207e1f5ca9f799966edb21434c1da84dfb21ba927d2d9b92065a60
+same archive-thirteen-nibbles archive samples/thirteen.nib outs/13-nibbles.arc
+holds archive-thirteen-nibbles-equal cmp outs/13.arc outs/13-nibbles.arc
+same archive-same-files archive samples/same-files.dsk outs/16.arc
+holds archive-same-files-equal cmp outs/13.arc outs/16.arc
+same check-thirteen check samples/thirteen.dsk outs/16.arc
+same check-thirteen-nibbles check samples/thirteen.nib outs/16.arc
+same check-same-files check samples/same-files.dsk outs/13.arc
+patch outs/16.arc 1030 ff
+same check-thirteen-changed check samples/thirteen.dsk outs/16.arc
+same show-thirteen show outs/13.arc
+
+# 13 sectors a track: denibblize; nibblize is refused
+same denibblize-thirteen denibblize samples/thirteen.nib outs/13.dsk
+holds denibblize-thirteen-bytes cmp outs/13.dsk samples/thirteen.dsk
+same denibblize-thirteen-said denibblize --13 samples/thirteen.nib outs/13-said.dsk
+holds denibblize-thirteen-said-bytes cmp outs/13-said.dsk samples/thirteen.dsk
+cat samples/thirteen.nib samples/thirteen.nib >twice.nib
+same denibblize-thirteen-twice denibblize twice.nib outs/13-twice.dsk
+holds denibblize-thirteen-twice-bytes cmp outs/13-twice.dsk samples/thirteen.dsk
+same denibblize-thirteen-as-16 denibblize samples/thirteen.nib outs/none --16
+same denibblize-sixteen-as-13 denibblize samples/one-page.nib outs/none --13
+same denibblize-thirteen-flat denibblize samples/thirteen.dsk outs/none
+same denibblize-thirteen-flat-said denibblize samples/thirteen.dsk outs/none --13
+same nibblize-thirteen nibblize samples/thirteen.dsk outs/none
+same nibblize-thirteen-nibbles nibblize samples/thirteen.nib outs/none
+damaged address.nib thirteen.nib "$(nib_13 3 5 44)" ff
+same denibblize-thirteen-address-sum denibblize address.nib outs/none
+damaged data.nib thirteen.nib "$(nib_13 4 6 76)" ab ad ae
+same denibblize-thirteen-data-sum denibblize data.nib outs/none
+damaged absent.nib thirteen.nib "$(nib_13 7 1 40)" ff
+same denibblize-thirteen-absent denibblize absent.nib outs/none
+patch absent.nib "$(nib_13 6 12 40)" ff
+same list-thirteen-absent list absent.nib
+damaged stranger.nib thirteen.nib "$(nib_13 2 0 47)" ae af bf af
+same denibblize-thirteen-stranger denibblize stranger.nib outs/none
+holds thirteen-nothing-left not test -e outs/none
+
+# a stream that holds two disks, one of each edition
+cat samples/one-page.nib samples/thirteen.nib >both.nib
+cat samples/thirteen.nib samples/one-page.nib >both-13.nib
+same both-list list both.nib
+same both-list-13 list both.nib --13
+holds both-list-13-equal diff listed <(sed 1d out)
+same both-13-list list both-13.nib
+holds both-13-list-equal diff listed <(sed 1,2d out)
+same both-13-list-16 list both-13.nib --16
+run list samples/one-page.dsk
+cp out listed-16
+run list both-13.nib --16
+holds both-13-list-16-equal diff <(sed 1d listed-16) <(sed 1d out)
+same both-archive archive both.nib outs/both-16.arc
+"$root/linefiles" archive samples/one-page.dsk outs/one.arc >/dev/null
+holds both-archive-bytes cmp outs/both-16.arc outs/one.arc
+same both-archive-13 archive both.nib outs/both-13.arc --13
+holds both-archive-13-bytes cmp outs/both-13.arc outs/13.arc
+same both-check check both.nib outs/one.arc
+same both-check-13 check both.nib outs/13.arc --13
+same both-check-other check both.nib outs/13.arc
+same both-get get both-13.nib 'LINE 2 STATIONS' outs/both-stations
+holds both-get-bytes cmp wanted outs/both-stations
+same both-get-16 get both-13.nib 'LINE 7 STATIONS' outs/both-stations-16 --16
+same both-denibblize denibblize both.nib outs/both-16.dsk
+holds both-denibblize-bytes cmp outs/both-16.dsk samples/one-page.dsk
+same both-denibblize-13 denibblize both.nib outs/both-13.dsk --13
+holds both-denibblize-13-bytes cmp outs/both-13.dsk samples/thirteen.dsk
+same both-nibblize nibblize both-13.nib outs/none
+same both-nibblize-16 nibblize both-13.nib outs/both.nib --16
+holds both-nibblize-16-bytes cmp outs/both.nib samples/one-page.nib
+cat address.nib samples/one-page.nib >half-13.nib
+same one-of-both list half-13.nib
+same one-of-both-said list half-13.nib --13
+cat <(head -c 832 samples/one-page.nib) samples/thirteen.nib >half-16.nib
+same one-of-both-16 check half-16.nib outs/13.arc
+same one-of-both-13 survey half-16.nib --13
+cat <(head -c 832 samples/one-page.nib) absent.nib >none-of-both.nib
+same none-of-both list none-of-both.nib
+
+# the options for streams
+same option-both list samples/thirteen.nib --13 --16
+same option-both-apart --16 list samples/thirteen.nib --13
+same option-twice survey --13 samples/thirteen.nib --13
+same option-first --13 survey samples/thirteen.nib
+same option-flat-13 list samples/thirteen.dsk --13
+same option-flat-16 archive samples/one-page.dsk outs/none --16 --force
+same option-flat-other map samples/one-page.dsk --13
+same option-show show outs/13.arc --13
+same option-help help --16
+same option-unknown list samples/thirteen.nib --14
+same option-unknown-file list --14
+same option-too-few list --13
+same option-missing list nosuch.nib --13
+holds option-nothing-left not test -e outs/none
+
 # files that cannot be read
 same missing list nosuch.dsk
 mkdir folder
@@ -229,6 +403,8 @@ same folder survey folder
 same empty list empty
 head -c 143359 samples/one-page.dsk >short.dsk
 same short survey short.dsk
+head -c 116479 samples/thirteen.dsk >short-13.dsk
+same short-thirteen survey short-13.dsk
 cp "$root/README.md" text.dsk
 head -c 1000 text.dsk >text-1000.dsk
 same text list text-1000.dsk
@@ -262,7 +438,8 @@ echo kept >outs/there
 ) >half.out
 cat half.err half.out >half
 printf '%s\n' 'linefiles: cannot write outs/half: File too large' 'linefiles: cannot write outs/there: File too large' \
-    'samples/one-page.dsk: flat disk of 143360 bytes' 'status 2' 'samples/one-page.dsk: flat disk of 143360 bytes' 'status 2' >half.wanted
+    'samples/one-page.dsk: flat disk of 143360 bytes, 16 sectors a track' 'status 2' \
+    'samples/one-page.dsk: flat disk of 143360 bytes, 16 sectors a track' 'status 2' >half.wanted
 holds half-told diff half.wanted half
 holds half-tidy tidy "folder there "
 holds half-kept test "$(cat outs/there)" = kept

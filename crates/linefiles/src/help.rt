@@ -25,7 +25,11 @@ fn rows(fd: i32) {
         b"survey DISK",
         b"volume, entries, free, used, blocks, links",
     );
-    row(fd, b"map DISK", b"35 tracks by 16 sectors as a picture");
+    row(
+        fd,
+        b"map DISK",
+        b"35 tracks by 16 or 13 sectors as a picture",
+    );
     row(
         fd,
         b"get DISK NAME OUT",
@@ -62,15 +66,27 @@ fn more_rows(fd: i32) {
     row(fd, b"help", b"this text");
 }
 
+fn disk_notes(fd: i32) {
+    line(
+        fd,
+        b"DISK is a flat image of 143360 bytes (16 sectors a track) or 116480 (13); a file",
+    );
+    line(
+        fd,
+        b"of any other length is taken as a nibble stream. Its first address mark says",
+    );
+    line(
+        fd,
+        b"whether its tracks have 16 sectors (D5 AA 96) or 13 (D5 AA B5); --16 and --13",
+    );
+    line(
+        fd,
+        b"say it instead. Streams of 13 sectors a track are read, not written.",
+    );
+}
+
 fn notes(fd: i32) {
-    line(
-        fd,
-        b"DISK is a flat image of 143360 bytes; a file of any other length is taken as a",
-    );
-    line(
-        fd,
-        b"nibble stream. OUT is not overwritten unless --force is said.",
-    );
+    line(fd, b"OUT is not overwritten unless --force is said.");
     line(
         fd,
         b"NAME is as `list` shows it: \\xHH is a byte in hexadecimal, \\\\ a backslash.",
@@ -89,10 +105,11 @@ fn notes(fd: i32) {
 pub(crate) fn print_help(fd: i32) {
     text(
         fd,
-        b"linefiles: the line files on an Apple DOS 3.3 disk\n\n",
+        b"linefiles: the line files on an Apple DOS 3.3 or DOS 3.2 disk\n\n",
     );
     rows(fd);
     more_rows(fd);
     text(fd, b"\n");
+    disk_notes(fd);
     notes(fd);
 }

@@ -14,10 +14,12 @@ use help::print_help;
 use libc::ENAMETOOLONG;
 use libc::STDERR_FILENO;
 use libc::STDOUT_FILENO;
+use outcome::Handed;
 use outcome::NO_TABLE;
 use outcome::NOT_ITS_RETURN;
 use outcome::NOT_ON_ROLL;
 use outcome::OVERLONG;
+use outcome::TRAY_SHORT;
 use print::count;
 use print::entry_columns;
 use print::finish;
@@ -29,6 +31,7 @@ use print::place;
 use print::refusal;
 use print::right;
 use print::text;
+use stream::Edition;
 use sums::after;
 use sums::next;
 use walk::poke;
@@ -55,6 +58,13 @@ const DENIBBLIZE: u8 = 9;
 
 const HELP: u8 = 10;
 
+// The options.
+const FORCE: u8 = 1;
+
+const AS_13: u8 = 2;
+
+const AS_16: u8 = 3;
+
 // The exit statuses.
 const GOOD: u8 = 0;
 
@@ -75,14 +85,23 @@ fn tell(s: &[u8]) {
     text(STDERR_FILENO, s);
 }
 
+// What the VTOC says, where it is none of this disk.
+fn tell_table(disk: &[u8], per: u8) {
+    let sectors = disk::byte_of(disk, per, vtoc(), 53);
+    tell(b", the VTOC at 17/0 says ");
+    number(STDERR_FILENO, disk::byte_of(disk, per, vtoc(), 52) as u64);
+    tell(b" tracks of ");
+    number(STDERR_FILENO, sectors as u64);
+    tell(b" sectors");
+    if (per == 13) & (sectors != 13) {
+        tell(b"; on a disk of 13 sectors a track it must say 13");
+    }
+}
+
 // Where on a disk the refusal is met, as far as it has a place.
 fn tell_place(disk: &[u8], why: u8) {
     if why == NO_TABLE {
-        tell(b", the VTOC at 17/0 says ");
-        number(STDERR_FILENO, disk::byte_of(disk, 16, vtoc(), 52) as u64);
-        tell(b" tracks of ");
-        number(STDERR_FILENO, disk::byte_of(disk, 16, vtoc(), 53) as u64);
-        tell(b" sectors");
+        tell_table(disk, disk::sectors_of(disk));
         return;
     }
     if walk::follow_pages(disk, why) == 0 {
@@ -112,7 +131,10 @@ fn list_links(disk: &[u8], fetch: bool, archive: &[u8]) {
     say(b"\nCatalog\n  VTOC 17/0     volume ");
     number(STDOUT_FILENO, v.diskette_volume_number as u64);
     say(b" -> page ");
-    place(STDOUT_FILENO, catalog::first_page(disk, 16));
+    place(
+        STDOUT_FILENO,
+        catalog::first_page(disk, disk::sectors_of(disk)),
+    );
     if v.track_number_of_first_catalog_sector != 17 {
         say(b" (it says track ");
         number(STDOUT_FILENO, v.track_number_of_first_catalog_sector as u64);
@@ -248,24 +270,34 @@ fn unescape(s: &[u8], out: &mut [u8]) -> usize {
     31
 }
 
-// Word k from the command on, which is word 0, into buf: its length. `--force` is left out.
+// Word k from the command on, which is word 0, into buf: its length. The options are left out.
 fn word(first: usize, k: usize, buf: &mut [u8]) -> usize {
     let i = word_place(first, k);
     os::arg(i, buf)
 }
 
-fn is_force(i: usize) -> bool {
+// The option that argument i is, 0 for none.
+fn option_of(i: usize) -> u8 {
     let mut w = [0u8; 8];
     let n = os::arg(i, &mut w);
-    lists::same(&w[..n], b"--force")
+    if lists::same(&w[..n], b"--force") {
+        return FORCE;
+    }
+    if lists::same(&w[..n], b"--13") {
+        return AS_13;
+    }
+    if lists::same(&w[..n], b"--16") {
+        return AS_16;
+    }
+    0
 }
 
-// The place among the arguments of word k from `first` on, `--force` left out; past the end where there is none.
+// The place among the arguments of word k from `first` on, the options left out; past the end where there is none.
 fn word_place(first: usize, k: usize) -> usize {
     let mut left = k;
     for i in 0..16usize {
         let at = after(first, i);
-        if !is_force(at) {
+        if option_of(at) == 0 {
             if left == 0 {
                 return at;
             }
@@ -275,13 +307,24 @@ fn word_place(first: usize, k: usize) -> usize {
     after(first, 16)
 }
 
-fn has_force(first: usize) -> bool {
+fn has_option(first: usize, option: u8) -> bool {
     for i in 0..16usize {
-        if is_force(after(first, i)) {
+        if option_of(after(first, i)) == option {
             return true;
         }
     }
     false
+}
+
+// The sectors a track that an option says, 0 where none does.
+fn said(first: usize) -> u8 {
+    if has_option(first, AS_13) {
+        return 13;
+    }
+    if has_option(first, AS_16) {
+        return 16;
+    }
+    0
 }
 
 fn refuse_name(shown: &[u8]) -> u8 {
@@ -392,7 +435,9 @@ fn nibblize(disk: &[u8], first: usize, force: bool) -> u8 {
     let mut out = [0u8; 232960];
     let h = stream::nibblize(disk, &mut out);
     if h.refusal != 0 {
-        return refuse(disk, h.refusal);
+        refusal(STDERR_FILENO, h.refusal);
+        tell(b", streams of 13 sectors a track are read, not written\n");
+        return REFUSED;
     }
     save_word(first, 2, lists::part(&out, 0, h.length), force)
 }
@@ -411,21 +456,72 @@ fn on_flat(command: u8, disk: &[u8], first: usize, force: bool) -> u8 {
     }
 }
 
-fn refuse_stream(bytes: &[u8], why: u8) -> u8 {
+fn edition_of(per: u8) -> Edition {
+    if per == 13 {
+        return Edition::Thirteen;
+    }
+    Edition::Sixteen
+}
+
+// Denibblizes by 13 or by 16 sectors a track.
+fn unroll(bytes: &[u8], per: u8, image: &mut [u8]) -> Handed {
+    if per == 13 {
+        return stream::denibblize_13(bytes, image);
+    }
+    stream::denibblize(bytes, image)
+}
+
+// Whether a stream holds a disk of `per` sectors a track: then only the space is short.
+fn holds(bytes: &[u8], per: u8) -> bool {
+    let mut none = [0u8; 1];
+    unroll(bytes, per, &mut none).refusal == TRAY_SHORT
+}
+
+// The number of the other edition.
+fn other(per: u8) -> u8 {
+    if per == 13 {
+        return 16;
+    }
+    13
+}
+
+// `guessed`: no option said the edition.
+fn refuse_stream(bytes: &[u8], why: u8, per: u8, guessed: bool) -> u8 {
     refusal(STDERR_FILENO, why);
-    nibbles::tell(bytes, why);
+    nibbles::tell(bytes, why, edition_of(per));
+    if guessed & holds(bytes, other(per)) {
+        tell(b"; by ");
+        number(STDERR_FILENO, other(per) as u64);
+        tell(b" sectors a track it is not refused (--");
+        number(STDERR_FILENO, other(per) as u64);
+        tell(b")");
+    }
     tell(b"\n");
     REFUSED
 }
 
-// A command on a nibble stream: it is denibblized first.
-fn on_stream(command: u8, bytes: &[u8], first: usize, force: bool) -> u8 {
-    let mut image = [0u8; 143360];
-    let h = stream::denibblize(bytes, &mut image);
-    if h.refusal != 0 {
-        return refuse_stream(bytes, h.refusal);
+// Says that a stream holds a disk of the other edition too.
+fn say_other(bytes: &[u8], per: u8) {
+    if holds(bytes, other(per)) {
+        say(b"It holds a disk of ");
+        number(STDOUT_FILENO, other(per) as u64);
+        say(b" sectors a track too: --");
+        number(STDOUT_FILENO, other(per) as u64);
+        say(b" takes that one.\n");
     }
-    on_flat(command, &image, first, force)
+}
+
+// A command on a nibble stream: it is denibblized first.
+fn on_stream(command: u8, bytes: &[u8], per: u8, guessed: bool, first: usize, force: bool) -> u8 {
+    let mut image = [0u8; 143360];
+    let h = unroll(bytes, per, &mut image);
+    if h.refusal != 0 {
+        return refuse_stream(bytes, h.refusal, per, guessed);
+    }
+    if guessed {
+        say_other(bytes, per);
+    }
+    on_flat(command, lists::part(&image, 0, h.length), first, force)
 }
 
 fn say_input(from: &[u8], what: &[u8], size: u64) {
@@ -434,17 +530,74 @@ fn say_input(from: &[u8], what: &[u8], size: u64) {
     say(what);
     say(b" of ");
     number(STDOUT_FILENO, size);
-    say(b" bytes\n");
+    say(b" bytes");
+}
+
+// How many sectors a track has.
+fn say_sectors(per: u8) {
+    say(b", ");
+    number(STDOUT_FILENO, per as u64);
+    say(b" sectors a track");
+}
+
+// What the sectors of a stream's track go by: the option, or the first address mark.
+fn say_reason(per: u8, guessed: bool, mark: u8) {
+    if !guessed {
+        say(b" (--");
+        number(STDOUT_FILENO, per as u64);
+        say(b")\n");
+        return;
+    }
+    if mark == 0 {
+        say(b" (no address mark)\n");
+        return;
+    }
+    say(b" (first address mark ");
+    nibbles::show_mark(STDOUT_FILENO, mark);
+    say(b")\n");
+}
+
+// The sectors a track that a stream is taken by: as an option says, else by its first address mark, and 16 where it has none.
+fn taken_by(told: u8, mark: u8) -> u8 {
+    if told != 0 {
+        return told;
+    }
+    if mark == 0xB5 {
+        return 13;
+    }
+    16
+}
+
+// A file that is taken as a nibble stream. The first line says so.
+fn as_stream(command: u8, from: &[u8], bytes: &[u8], first: usize, force: bool) -> u8 {
+    let told = said(first);
+    let mark = stream::recognize_prologue(bytes);
+    let per = taken_by(told, mark);
+    say_input(from, b"taken as a nibble stream", bytes.len() as u64);
+    say_sectors(per);
+    say_reason(per, told == 0, mark);
+    on_stream(command, bytes, per, told == 0, first, force)
+}
+
+fn is_flat(bytes: &[u8]) -> bool {
+    (bytes.len() == 143360) | (bytes.len() == 116480)
 }
 
 // A command on a disk: flat, or by its length a nibble stream. The first line says which.
 fn on_disk(command: u8, from: &[u8], bytes: &[u8], first: usize, force: bool) -> u8 {
-    if (bytes.len() == 143360) & (command != DENIBBLIZE) {
-        say_input(from, b"flat disk", bytes.len() as u64);
-        return on_flat(command, bytes, first, force);
+    if (command == DENIBBLIZE) | !is_flat(bytes) {
+        return as_stream(command, from, bytes, first, force);
     }
-    say_input(from, b"taken as a nibble stream", bytes.len() as u64);
-    on_stream(command, bytes, first, force)
+    if said(first) != 0 {
+        tell(b"linefiles: --13 and --16 are for nibble streams; ");
+        path(STDERR_FILENO, from);
+        tell(b" is a flat disk by its length\n");
+        return TROUBLE;
+    }
+    say_input(from, b"flat disk", bytes.len() as u64);
+    say_sectors(disk::sectors_of(bytes));
+    say(b"\n");
+    on_flat(command, bytes, first, force)
 }
 
 fn show_entry(archive: &[u8], block: u64, e: reader::Entry) {
@@ -481,7 +634,7 @@ fn show(from: &[u8], archive: &[u8]) -> u8 {
         return REFUSED;
     }
     say_input(from, b"archive", archive.len() as u64);
-    say(b"\nVolume ");
+    say(b"\n\nVolume ");
     number(STDOUT_FILENO, o.volume as u64);
     say(b", ");
     count(STDOUT_FILENO, o.blocks as u64, b"block", b"blocks");
@@ -495,7 +648,7 @@ fn show(from: &[u8], archive: &[u8]) -> u8 {
 
 // Reads the file that the command is about, and goes on with its bytes.
 fn act(command: u8, first: usize) -> u8 {
-    let force = has_force(first);
+    let force = has_option(first, FORCE);
     let mut from = io::buffer();
     let n = word(first, 1, &mut from);
     let mut bytes = space();
@@ -608,18 +761,38 @@ fn unknown_command(w: &[u8]) -> u8 {
 fn usage(command: u8) -> u8 {
     tell(b"usage: linefiles ");
     match command {
-        LIST => tell(b"list DISK"),
-        SURVEY => tell(b"survey DISK"),
-        MAP => tell(b"map DISK"),
-        GET => tell(b"get DISK NAME OUT [--force]"),
-        ARCHIVE => tell(b"archive DISK OUT [--force]"),
-        CHECK => tell(b"check DISK ARCHIVE"),
+        LIST => tell(b"list DISK [--13 | --16]"),
+        SURVEY => tell(b"survey DISK [--13 | --16]"),
+        MAP => tell(b"map DISK [--13 | --16]"),
+        GET => tell(b"get DISK NAME OUT [--force] [--13 | --16]"),
+        ARCHIVE => tell(b"archive DISK OUT [--force] [--13 | --16]"),
+        CHECK => tell(b"check DISK ARCHIVE [--13 | --16]"),
         SHOW => tell(b"show ARCHIVE"),
-        NIBBLIZE => tell(b"nibblize DISK OUT [--force]"),
-        _ => tell(b"denibblize STREAM OUT [--force]"),
+        NIBBLIZE => tell(b"nibblize DISK OUT [--force] [--13 | --16]"),
+        _ => tell(b"denibblize STREAM OUT [--force] [--13 | --16]"),
     }
     tell(b"\n       linefiles help says what it does\n");
     TROUBLE
+}
+
+// Whether the options for streams stand where they say nothing, or against each other. Then this is said.
+fn wrong_options(command: u8, first: usize) -> bool {
+    if said(first) == 0 {
+        return false;
+    }
+    if command == SHOW {
+        tell(b"linefiles: --13 and --16 are for nibble streams; show reads an archive\n");
+        return true;
+    }
+    if command == HELP {
+        tell(b"linefiles: --13 and --16 are for nibble streams; help reads none\n");
+        return true;
+    }
+    if has_option(first, AS_13) & has_option(first, AS_16) {
+        tell(b"linefiles: --13 and --16 are both said; a stream is taken by one of them\n");
+        return true;
+    }
+    false
 }
 
 // Runs the command that stands among the arguments at `first`.
@@ -634,12 +807,19 @@ fn run(first: usize) -> u8 {
     if command == 0 {
         return unknown_command(lists::part(&w, 0, n));
     }
+    run_command(command, first)
+}
+
+fn run_command(command: u8, first: usize) -> u8 {
+    if (command != HELP) & (words(first) != wants(command)) {
+        return usage(command);
+    }
+    if wrong_options(command, first) {
+        return TROUBLE;
+    }
     if command == HELP {
         print_help(STDOUT_FILENO);
         return finish(b"\n");
-    }
-    if words(first) != wants(command) {
-        return usage(command);
     }
     act(command, first)
 }

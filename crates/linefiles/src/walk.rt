@@ -22,6 +22,8 @@ use disk::Sector;
 use disk::Track;
 use disk::link_of;
 use disk::on_disk;
+use disk::sector_start;
+use disk::sectors_of;
 use files::last_list;
 use files::parse_track_sector_pair;
 use libc::STDERR_FILENO;
@@ -39,9 +41,9 @@ pub struct Step {
     pub block: u64,
 }
 
-// The sector's number on the disk.
-pub(crate) fn sector_number(p: Place) -> usize {
-    16 * (p.track.0 as usize) + p.sector.0 as usize
+// The sector's number on a disk of `per` sectors a track.
+pub(crate) fn sector_number(per: u8, p: Place) -> usize {
+    sector_start(per, p) / 256
 }
 
 pub(crate) fn poke(bytes: &mut [u8], at: usize, v: u8) {
@@ -51,8 +53,8 @@ pub(crate) fn poke(bytes: &mut [u8], at: usize, v: u8) {
 }
 
 // Where a page or list ends its chain: its link, if that holds something.
-fn last_link(disk: &[u8], p: Place) {
-    let q = link_of(disk, 16, p);
+fn last_link(disk: &[u8], per: u8, p: Place) {
+    let q = link_of(disk, per, p);
     if (q.track.0 != 0) | (q.sector.0 != 0) {
         text(STDOUT_FILENO, b" (link ");
         place(STDOUT_FILENO, q);
@@ -66,25 +68,30 @@ fn is_live(disk: &[u8], x: usize) -> bool {
     valid_file(byte_at(disk, x))
 }
 
-fn live_entries(disk: &[u8], p: Place) -> u64 {
+fn live_entries(disk: &[u8], per: u8, p: Place) -> u64 {
     let mut n: u64 = 0;
     for i in 0..7u8 {
-        n = more(n, is_live(disk, entry_start(16, p, i)));
+        n = more(n, is_live(disk, entry_start(per, p, i)));
     }
     n
 }
 
-fn page_line(disk: &[u8], p: Place) {
+fn page_line(disk: &[u8], per: u8, p: Place) {
     text(STDOUT_FILENO, b"  page ");
     place_column(STDOUT_FILENO, p);
-    count(STDOUT_FILENO, live_entries(disk, p), b"entry", b"entries");
-    if last_page(disk, 16, p) {
+    count(
+        STDOUT_FILENO,
+        live_entries(disk, per, p),
+        b"entry",
+        b"entries",
+    );
+    if last_page(disk, per, p) {
         text(STDOUT_FILENO, b", no next page");
-        last_link(disk, p);
+        last_link(disk, per, p);
         return;
     }
     text(STDOUT_FILENO, b" -> page ");
-    place(STDOUT_FILENO, link_of(disk, 16, p));
+    place(STDOUT_FILENO, link_of(disk, per, p));
     text(STDOUT_FILENO, b"\n");
 }
 
@@ -100,9 +107,9 @@ fn holds_80h(disk: &[u8], x: usize) -> bool {
 }
 
 // The first live entry of a page whose name holds 80h.
-fn bad_entry(disk: &[u8], p: Place) -> u8 {
+fn bad_entry(disk: &[u8], per: u8, p: Place) -> u8 {
     for i in 0..7u8 {
-        let x = entry_start(16, p, i);
+        let x = entry_start(per, p, i);
         if is_live(disk, x) & holds_80h(disk, x) {
             return i;
         }
@@ -111,14 +118,14 @@ fn bad_entry(disk: &[u8], p: Place) -> u8 {
 }
 
 // Why a page cannot be read: 3, 4, 6, or 0.
-fn page_refusal(disk: &[u8], p: Place, seen: &[u8]) -> u8 {
-    if !on_disk(16, p) {
+fn page_refusal(disk: &[u8], per: u8, p: Place, seen: &[u8]) -> u8 {
+    if !on_disk(per, p) {
         return OFF_DISC;
     }
-    if byte_at(seen, sector_number(p)) == 1 {
+    if byte_at(seen, sector_number(per, p)) == 1 {
         return RING;
     }
-    if plain_page(disk, 16, p) {
+    if plain_page(disk, per, p) {
         return 0;
     }
     BAD_LETTER
@@ -137,15 +144,15 @@ fn bad_link(refusal: u8, what: &[u8], to: Place) {
 }
 
 // The place where the walk along the pages stops. `from` is the VTOC if no page was read.
-fn page_stop(disk: &[u8], refusal: u8, pages: u16, from: Place, to: Place) {
+fn page_stop(disk: &[u8], per: u8, refusal: u8, pages: u16, from: Place, to: Place) {
     if refusal == BAD_LETTER {
-        let i = bad_entry(disk, to);
+        let i = bad_entry(disk, per, to);
         text(STDERR_FILENO, b", catalog page ");
         place(STDERR_FILENO, to);
         text(STDERR_FILENO, b", entry ");
         number(STDERR_FILENO, next(i as u64));
         text(STDERR_FILENO, b": ");
-        let e = parse_file_entry(disk, entry_start(16, to, i));
+        let e = parse_file_entry(disk, entry_start(per, to, i));
         shown_name(STDERR_FILENO, e.name);
         return;
     }
@@ -159,15 +166,15 @@ fn page_stop(disk: &[u8], refusal: u8, pages: u16, from: Place, to: Place) {
 }
 
 // Shows a page, or tells the place of the refusal `why`, where it is met here.
-fn at_page(disk: &[u8], why: u8, refusal: u8, pages: u16, from: Place, to: Place) {
+fn at_page(disk: &[u8], per: u8, why: u8, refusal: u8, pages: u16, from: Place, to: Place) {
     if why == 0 {
         if refusal == 0 {
-            page_line(disk, to);
+            page_line(disk, per, to);
         }
         return;
     }
     if why == refusal {
-        page_stop(disk, refusal, pages, from, to);
+        page_stop(disk, per, refusal, pages, from, to);
     }
 }
 
@@ -179,21 +186,21 @@ pub(crate) fn vtoc() -> Place {
 }
 
 // Follows the pages: the first refusal met, or 0. `seen` is all zeros.
-fn follow_seen(disk: &[u8], why: u8, seen: &mut [u8]) -> u8 {
+fn follow_seen(disk: &[u8], per: u8, why: u8, seen: &mut [u8]) -> u8 {
     let mut from = vtoc();
-    let mut p = first_page(disk, 16);
+    let mut p = first_page(disk, per);
     for k in 0..561u16 {
-        let refusal = page_refusal(disk, p, seen);
-        at_page(disk, why, refusal, k, from, p);
+        let refusal = page_refusal(disk, per, p, seen);
+        at_page(disk, per, why, refusal, k, from, p);
         if refusal != 0 {
             return refusal;
         }
-        if last_page(disk, 16, p) {
+        if last_page(disk, per, p) {
             return 0;
         }
-        poke(seen, sector_number(p), 1);
+        poke(seen, sector_number(per, p), 1);
         from = p;
-        p = link_of(disk, 16, p);
+        p = link_of(disk, per, p);
     }
     RING
 }
@@ -201,7 +208,7 @@ fn follow_seen(disk: &[u8], why: u8, seen: &mut [u8]) -> u8 {
 // Follows the pages of a disk that has a VTOC. `why` is 0 to show them, or the refusal whose place is to be told.
 pub(crate) fn follow_pages(disk: &[u8], why: u8) -> u8 {
     let mut seen = [0u8; 560];
-    follow_seen(disk, why, &mut seen)
+    follow_seen(disk, sectors_of(disk), why, &mut seen)
 }
 
 // How many pairs the list has.
@@ -211,7 +218,7 @@ fn pairs_in(disk: &[u8], p: Place) -> u64 {
     (h.length / 2) as u64
 }
 
-fn list_line(disk: &[u8], p: Place) {
+fn list_line(disk: &[u8], per: u8, p: Place) {
     text(STDOUT_FILENO, b"                                list ");
     place_column(STDOUT_FILENO, p);
     let n = pairs_in(disk, p);
@@ -221,30 +228,30 @@ fn list_line(disk: &[u8], p: Place) {
     } else {
         text(STDOUT_FILENO, b" pairs");
     }
-    if last_list(disk, 16, p) {
+    if last_list(disk, per, p) {
         text(STDOUT_FILENO, b", no next list");
-        last_link(disk, p);
+        last_link(disk, per, p);
         return;
     }
     text(STDOUT_FILENO, b" -> list ");
-    place(STDOUT_FILENO, link_of(disk, 16, p));
+    place(STDOUT_FILENO, link_of(disk, per, p));
     text(STDOUT_FILENO, b"\n");
 }
 
 // Why a list cannot be reached by a link: 3, 4, or 0.
-fn list_refusal(p: Place, seen: &[u8]) -> u8 {
-    if !on_disk(16, p) {
+fn list_refusal(per: u8, p: Place, seen: &[u8]) -> u8 {
+    if !on_disk(per, p) {
         return OFF_DISC;
     }
-    if byte_at(seen, sector_number(p)) == 1 {
+    if byte_at(seen, sector_number(per, p)) == 1 {
         return RING;
     }
     0
 }
 
 // 5 where the link of a list has a track and sector 0, else 0.
-fn link_refusal(disk: &[u8], p: Place) -> u8 {
-    let q = link_of(disk, 16, p);
+fn link_refusal(disk: &[u8], per: u8, p: Place) -> u8 {
+    let q = link_of(disk, per, p);
     if (q.track.0 != 0) & (q.sector.0 == 0) {
         return CUT_LINK;
     }
@@ -273,16 +280,17 @@ fn list_stop(refusal: u8, lists: u16, from: Place, to: Place, entries: u64, e: F
 }
 
 // The place where it stops at a link.
-fn link_stop(disk: &[u8], p: Place, entries: u64, e: FileEntry) {
+fn link_stop(disk: &[u8], per: u8, p: Place, entries: u64, e: FileEntry) {
     tell_entry(entries, e);
     text(STDERR_FILENO, b"list ");
     place(STDERR_FILENO, p);
     text(STDERR_FILENO, b" leads to ");
-    place(STDERR_FILENO, link_of(disk, 16, p));
+    place(STDERR_FILENO, link_of(disk, per, p));
 }
 
 fn at_list(
     disk: &[u8],
+    per: u8,
     why: u8,
     refusal: u8,
     lists: u16,
@@ -293,7 +301,7 @@ fn at_list(
 ) {
     if why == 0 {
         if refusal == 0 {
-            list_line(disk, to);
+            list_line(disk, per, to);
         }
         return;
     }
@@ -302,45 +310,45 @@ fn at_list(
     }
 }
 
-fn at_link(disk: &[u8], why: u8, refusal: u8, p: Place, entries: u64, e: FileEntry) {
+fn at_link(disk: &[u8], per: u8, why: u8, refusal: u8, p: Place, entries: u64, e: FileEntry) {
     if (refusal != 0) & (why == refusal) {
-        link_stop(disk, p, entries, e);
+        link_stop(disk, per, p, entries, e);
     }
 }
 
 // Follows the lists of an entry: the first refusal met, or 0. `seen` is all zeros.
-fn follow_lists(disk: &[u8], why: u8, entries: u64, e: FileEntry, seen: &mut [u8]) -> u8 {
+fn follow_lists(disk: &[u8], per: u8, why: u8, entries: u64, e: FileEntry, seen: &mut [u8]) -> u8 {
     let mut p = e.list;
     let mut from = p;
     for k in 0..561u16 {
-        let reached = list_refusal(p, seen);
-        at_list(disk, why, reached, k, from, p, entries, e);
+        let reached = list_refusal(per, p, seen);
+        at_list(disk, per, why, reached, k, from, p, entries, e);
         if reached != 0 {
             return reached;
         }
-        if last_list(disk, 16, p) {
+        if last_list(disk, per, p) {
             return 0;
         }
-        let refusal = link_refusal(disk, p);
-        at_link(disk, why, refusal, p, entries, e);
+        let refusal = link_refusal(disk, per, p);
+        at_link(disk, per, why, refusal, p, entries, e);
         if refusal != 0 {
             return refusal;
         }
-        poke(seen, sector_number(p), 1);
+        poke(seen, sector_number(per, p), 1);
         from = p;
-        p = link_of(disk, 16, p);
+        p = link_of(disk, per, p);
     }
     RING
 }
 
 // The first pair of a list that is not on the disk; 121 where all are.
-fn bad_pair(disk: &[u8], p: Place) -> u8 {
+fn bad_pair(disk: &[u8], per: u8, p: Place) -> u8 {
     for i in 0..121u8 {
-        let q = parse_track_sector_pair(disk, 16, p, i);
+        let q = parse_track_sector_pair(disk, per, p, i);
         if q.track.0 == 0 {
             return 121;
         }
-        if !on_disk(16, q) {
+        if !on_disk(per, q) {
             return i;
         }
     }
@@ -348,8 +356,8 @@ fn bad_pair(disk: &[u8], p: Place) -> u8 {
 }
 
 // Tells of the pair where it is not on the disk: 3, or 0.
-fn at_pairs(disk: &[u8], why: u8, p: Place, entries: u64, e: FileEntry) -> u8 {
-    let i = bad_pair(disk, p);
+fn at_pairs(disk: &[u8], per: u8, why: u8, p: Place, entries: u64, e: FileEntry) -> u8 {
+    let i = bad_pair(disk, per, p);
     if i == 121 {
         return 0;
     }
@@ -360,23 +368,23 @@ fn at_pairs(disk: &[u8], why: u8, p: Place, entries: u64, e: FileEntry) -> u8 {
         text(STDERR_FILENO, b" of list ");
         place(STDERR_FILENO, p);
         text(STDERR_FILENO, b" is ");
-        place(STDERR_FILENO, parse_track_sector_pair(disk, 16, p, i));
+        place(STDERR_FILENO, parse_track_sector_pair(disk, per, p, i));
     }
     OFF_DISC
 }
 
 // Looks at the pairs of the lists of an entry, which were followed: 3, or 0.
-fn follow_pairs(disk: &[u8], why: u8, entries: u64, e: FileEntry) -> u8 {
+fn follow_pairs(disk: &[u8], per: u8, why: u8, entries: u64, e: FileEntry) -> u8 {
     let mut p = e.list;
     for k in 0..560u16 {
-        let refusal = at_pairs(disk, why, p, entries, e);
+        let refusal = at_pairs(disk, per, why, p, entries, e);
         if refusal != 0 {
             return refusal;
         }
-        if last_list(disk, 16, p) {
+        if last_list(disk, per, p) {
             return 0;
         }
-        p = link_of(disk, 16, p);
+        p = link_of(disk, per, p);
     }
     0
 }
@@ -405,17 +413,25 @@ fn entry_line(disk: &[u8], fetch: bool, found: reader::Entry, entries: u64, e: F
 }
 
 // Follows the lists of an entry, then looks at its pairs.
-fn follow_file(disk: &[u8], why: u8, entries: u64, e: FileEntry) -> u8 {
+fn follow_file(disk: &[u8], per: u8, why: u8, entries: u64, e: FileEntry) -> u8 {
     let mut seen = [0u8; 560];
-    let refusal = follow_lists(disk, why, entries, e, &mut seen);
+    let refusal = follow_lists(disk, per, why, entries, e, &mut seen);
     if refusal != 0 {
         return refusal;
     }
-    follow_pairs(disk, why, entries, e)
+    follow_pairs(disk, per, why, entries, e)
 }
 
 // Follows the entry from x on, if it is in use.
-fn follow_entry(disk: &[u8], why: u8, fetch: bool, archive: &[u8], x: usize, s: Step) -> Step {
+fn follow_entry(
+    disk: &[u8],
+    per: u8,
+    why: u8,
+    fetch: bool,
+    archive: &[u8],
+    x: usize,
+    s: Step,
+) -> Step {
     if (s.refusal != 0) | !is_live(disk, x) {
         return s;
     }
@@ -424,7 +440,7 @@ fn follow_entry(disk: &[u8], why: u8, fetch: bool, archive: &[u8], x: usize, s: 
     if why == 0 {
         entry_line(disk, fetch, found, s.entries, e);
     }
-    let refusal = follow_file(disk, why, s.entries, e);
+    let refusal = follow_file(disk, per, why, s.entries, e);
     Step {
         refusal: refusal,
         entries: next(s.entries),
@@ -432,28 +448,37 @@ fn follow_entry(disk: &[u8], why: u8, fetch: bool, archive: &[u8], x: usize, s: 
     }
 }
 
-fn follow_page(disk: &[u8], why: u8, fetch: bool, archive: &[u8], p: Place, before: Step) -> Step {
+fn follow_page(
+    disk: &[u8],
+    per: u8,
+    why: u8,
+    fetch: bool,
+    archive: &[u8],
+    p: Place,
+    before: Step,
+) -> Step {
     let mut s = before;
     for i in 0..7u8 {
-        s = follow_entry(disk, why, fetch, archive, entry_start(16, p, i), s);
+        s = follow_entry(disk, per, why, fetch, archive, entry_start(per, p, i), s);
     }
     s
 }
 
 // Follows the entries of all pages, which were followed before: the first refusal met, or 0. `archive` is that of the disk, or empty.
 pub(crate) fn follow_files(disk: &[u8], why: u8, fetch: bool, archive: &[u8]) -> u8 {
-    let mut p = first_page(disk, 16);
+    let per = sectors_of(disk);
+    let mut p = first_page(disk, per);
     let mut s = Step {
         refusal: 0,
         entries: 0,
         block: 1,
     };
     for k in 0..560u16 {
-        s = follow_page(disk, why, fetch, archive, p, s);
-        if last_page(disk, 16, p) {
+        s = follow_page(disk, per, why, fetch, archive, p, s);
+        if last_page(disk, per, p) {
             return s.refusal;
         }
-        p = link_of(disk, 16, p);
+        p = link_of(disk, per, p);
     }
     s.refusal
 }

@@ -17,7 +17,7 @@ word-place-spec =
     μ-loop
     (λ c. search needs)  -- loop-holds
     (λ c κs. search needs)  -- after-requires
-    (λ c κs. search needs)  -- is-force-requires
+    (λ c κs. search needs)  -- option-of-requires
     (λ c. search needs)  -- returns
     (λ c. search needs)  -- sub-left
     (λ c. search needs)  -- add-i

@@ -4,10 +4,10 @@ use Rattle.linefiles.proofs.map.count_letter.Statement.{statement}
 use Rattle.linefiles.proofs.map.count_letter.Tie as tie
 
 abbrev Inv-loop : tie.InvT-loop
-Inv-loop disk uses wanted small n₀ k₀ n k = k ≤ 560
+Inv-loop disk per uses wanted small n₀ track₀ n track = track ≤ 35
 
 abbrev μ-loop : tie.MeasureT-loop
-μ-loop disk uses wanted small n₀ k₀ n k = 560 - k
+μ-loop disk per uses wanted small n₀ track₀ n track = 35 - track
 
 pub count-letter-spec : {M : Type 1} → statement M
 count-letter-spec =
@@ -16,9 +16,8 @@ count-letter-spec =
     Inv-loop
     μ-loop
     (λ c. search needs)  -- loop-holds
-    (λ c κs. search needs)  -- letter-requires
-    (λ c κs. search needs)  -- more-requires
-    (λ c. search needs)  -- add-k
+    (λ c κs. search needs)  -- count-row-requires
+    (λ c. search needs)  -- add-track
     (λ c. search needs)  -- loop-less
     (λ c. search needs)  -- loop-again
     (λ c. search needs)  -- returns

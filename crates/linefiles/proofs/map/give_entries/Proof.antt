@@ -6,10 +6,10 @@ use Rattle.linefiles.proofs.map.give_entries.Statement.{statement}
 use Rattle.linefiles.proofs.map.give_entries.Tie as tie
 
 abbrev Inv-loop : tie.InvT-loop
-Inv-loop disk p uses₀ i₀ uses i = (i ≤ 7) × (length uses ≡ length uses₀)
+Inv-loop disk per p uses₀ i₀ uses i = (i ≤ 7) × (length uses ≡ length uses₀)
 
 abbrev μ-loop : tie.MeasureT-loop
-μ-loop disk p uses₀ i₀ uses i = 7 - i
+μ-loop disk per p uses₀ i₀ uses i = 7 - i
 
 pub give-entries-spec : {M : Type 1} → statement M
 give-entries-spec =

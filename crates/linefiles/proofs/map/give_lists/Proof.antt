@@ -6,10 +6,10 @@ use Rattle.linefiles.proofs.map.give_lists.Statement.{statement}
 use Rattle.linefiles.proofs.map.give_lists.Tie as tie
 
 abbrev Inv-loop : tie.InvT-loop
-Inv-loop disk uses₀ p₀ k₀ uses p k = (k ≤ 560) × (length uses ≡ length uses₀)
+Inv-loop disk per uses₀ p₀ k₀ uses p k = (k ≤ 560) × (length uses ≡ length uses₀)
 
 abbrev μ-loop : tie.MeasureT-loop
-μ-loop disk uses₀ p₀ k₀ uses p k = 560 - k
+μ-loop disk per uses₀ p₀ k₀ uses p k = 560 - k
 
 pub give-lists-spec : {M : Type 1} → statement M
 give-lists-spec =

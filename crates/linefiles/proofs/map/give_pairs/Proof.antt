@@ -6,10 +6,10 @@ use Rattle.linefiles.proofs.map.give_pairs.Statement.{statement}
 use Rattle.linefiles.proofs.map.give_pairs.Tie as tie
 
 abbrev Inv-loop : tie.InvT-loop
-Inv-loop disk p uses₀ i₀ uses i = (i ≤ 121) × (length uses ≡ length uses₀)
+Inv-loop disk per p uses₀ i₀ uses i = (i ≤ 121) × (length uses ≡ length uses₀)
 
 abbrev μ-loop : tie.MeasureT-loop
-μ-loop disk p uses₀ i₀ uses i = 121 - i
+μ-loop disk per p uses₀ i₀ uses i = 121 - i
 
 pub give-pairs-spec : {M : Type 1} → statement M
 give-pairs-spec =

@@ -6,10 +6,10 @@ use Rattle.linefiles.proofs.map.row.Statement.{statement}
 use Rattle.linefiles.proofs.map.row.Tie as tie
 
 abbrev Inv-loop : tie.InvT-loop
-Inv-loop disk uses track letters₀ s₀ t6 t7 letters s = (s ≤ 16) × (length letters ≡ 16)
+Inv-loop disk per uses track letters₀ s₀ t7 t8 letters s = (s ≤ per) × (length letters ≡ 16)
 
 abbrev μ-loop : tie.MeasureT-loop
-μ-loop disk uses track letters₀ s₀ t6 t7 letters s = 16 - s
+μ-loop disk per uses track letters₀ s₀ t7 t8 letters s = per - s
 
 pub row-spec : {M : Type 1} → statement M
 row-spec =
@@ -20,9 +20,6 @@ row-spec =
     (λ c. search needs)  -- loop-holds
     (λ c. search needs)  -- slice-aggregate-poke
     (λ c. search needs)  -- cast-poke
-    (λ c. search needs)  -- mul-letter
-    (λ c. search needs)  -- cast-letter
-    (λ c. search needs)  -- add-letter
     (λ c κs. search needs)  -- letter-requires
     (λ c κs. search needs)  -- poke-requires
     (λ c. search needs)  -- add-s
@@ -31,9 +28,10 @@ row-spec =
     (λ c κs. search needs)  -- right-requires
     (λ c. search needs)  -- slice-aggregate-text
     (λ c κs. search needs)  -- text-requires
-    (λ c. search needs)  -- slice-aggregate-text-2
+    (λ c. search needs)  -- slice-aggregate-part
+    (λ c κs. search needs)  -- part-requires
     (λ c κs. search needs)  -- text-requires-2
-    (λ c. search needs)  -- slice-aggregate-text-3
+    (λ c. search needs)  -- slice-aggregate-text-2
     (λ c κs. search needs)  -- text-requires-3
     (λ c. search needs)  -- returns
     )

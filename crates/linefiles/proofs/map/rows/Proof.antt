@@ -4,10 +4,10 @@ use Rattle.linefiles.proofs.map.rows.Statement.{statement}
 use Rattle.linefiles.proofs.map.rows.Tie as tie
 
 abbrev Inv-loop : tie.InvT-loop
-Inv-loop disk uses track₀ track = track ≤ 35
+Inv-loop disk per uses track₀ track = track ≤ 35
 
 abbrev μ-loop : tie.MeasureT-loop
-μ-loop disk uses track₀ track = 35 - track
+μ-loop disk per uses track₀ track = 35 - track
 
 pub rows-spec : {M : Type 1} → statement M
 rows-spec =

@@ -4,10 +4,10 @@ use Rattle.linefiles.proofs.nibbles.address_place.Statement.{statement}
 use Rattle.linefiles.proofs.nibbles.address_place.Tie as tie
 
 abbrev Inv-loop : tie.InvT-loop
-Inv-loop s i k₀ turn₀ k turn = turn ≤ 1048576
+Inv-loop s i ed k₀ turn₀ k turn = turn ≤ 1048576
 
 abbrev μ-loop : tie.MeasureT-loop
-μ-loop s i k₀ turn₀ k turn = 1048576 - turn
+μ-loop s i ed k₀ turn₀ k turn = 1048576 - turn
 
 pub address-place-spec : {M : Type 1} → statement M
 address-place-spec =

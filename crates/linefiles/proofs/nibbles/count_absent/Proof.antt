@@ -4,10 +4,10 @@ use Rattle.linefiles.proofs.nibbles.count_absent.Statement.{statement}
 use Rattle.linefiles.proofs.nibbles.count_absent.Tie as tie
 
 abbrev Inv-loop : tie.InvT-loop
-Inv-loop seen n₀ k₀ n k = k ≤ 560
+Inv-loop seen all n₀ k₀ n k = k ≤ all
 
 abbrev μ-loop : tie.MeasureT-loop
-μ-loop seen n₀ k₀ n k = 560 - k
+μ-loop seen all n₀ k₀ n k = all - k
 
 pub count-absent-spec : {M : Type 1} → statement M
 count-absent-spec =

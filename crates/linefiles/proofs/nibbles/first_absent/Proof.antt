@@ -4,10 +4,10 @@ use Rattle.linefiles.proofs.nibbles.first_absent.Statement.{statement}
 use Rattle.linefiles.proofs.nibbles.first_absent.Tie as tie
 
 abbrev Inv-loop : tie.InvT-loop
-Inv-loop seen k₀ k = k ≤ 560
+Inv-loop seen all k₀ k = k ≤ all
 
 abbrev μ-loop : tie.MeasureT-loop
-μ-loop seen k₀ k = 560 - k
+μ-loop seen all k₀ k = all - k
 
 pub first-absent-spec : {M : Type 1} → statement M
 first-absent-spec =

@@ -6,10 +6,10 @@ use Rattle.linefiles.proofs.nibbles.tell_pairs.Statement.{statement}
 use Rattle.linefiles.proofs.nibbles.tell_pairs.Tie as tie
 
 abbrev Inv-loop : tie.InvT-loop
-Inv-loop s why volume seen₀ i₀ turn₀ seen i turn = (turn ≤ 4096) × (length seen ≡ length seen₀)
+Inv-loop s why volume seen₀ ed i₀ turn₀ seen i turn = (turn ≤ 4096) × (length seen ≡ length seen₀)
 
 abbrev μ-loop : tie.MeasureT-loop
-μ-loop s why volume seen₀ i₀ turn₀ seen i turn = 4096 - turn
+μ-loop s why volume seen₀ ed i₀ turn₀ seen i turn = 4096 - turn
 
 pub tell-pairs-spec : {M : Type 1} → statement M
 tell-pairs-spec =

@@ -4,10 +4,10 @@ use Rattle.linefiles.proofs.walk.bad_entry.Statement.{statement}
 use Rattle.linefiles.proofs.walk.bad_entry.Tie as tie
 
 abbrev Inv-loop : tie.InvT-loop
-Inv-loop disk p i₀ i = i ≤ 7
+Inv-loop disk per p i₀ i = i ≤ 7
 
 abbrev μ-loop : tie.MeasureT-loop
-μ-loop disk p i₀ i = 7 - i
+μ-loop disk per p i₀ i = 7 - i
 
 pub bad-entry-spec : {M : Type 1} → statement M
 bad-entry-spec =

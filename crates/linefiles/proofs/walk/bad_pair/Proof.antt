@@ -4,10 +4,10 @@ use Rattle.linefiles.proofs.walk.bad_pair.Statement.{statement}
 use Rattle.linefiles.proofs.walk.bad_pair.Tie as tie
 
 abbrev Inv-loop : tie.InvT-loop
-Inv-loop disk p i₀ i = i ≤ 121
+Inv-loop disk per p i₀ i = i ≤ 121
 
 abbrev μ-loop : tie.MeasureT-loop
-μ-loop disk p i₀ i = 121 - i
+μ-loop disk per p i₀ i = 121 - i
 
 pub bad-pair-spec : {M : Type 1} → statement M
 bad-pair-spec =

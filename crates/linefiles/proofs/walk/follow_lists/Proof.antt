@@ -6,10 +6,10 @@ use Rattle.linefiles.proofs.walk.follow_lists.Statement.{statement}
 use Rattle.linefiles.proofs.walk.follow_lists.Tie as tie
 
 abbrev Inv-loop : tie.InvT-loop
-Inv-loop disk why entries e seen₀ p₀ from₀ k₀ seen p from k = (k ≤ 561) × (length seen ≡ length seen₀)
+Inv-loop disk per why entries e seen₀ p₀ from₀ k₀ seen p from k = (k ≤ 561) × (length seen ≡ length seen₀)
 
 abbrev μ-loop : tie.MeasureT-loop
-μ-loop disk why entries e seen₀ p₀ from₀ k₀ seen p from k = 561 - k
+μ-loop disk per why entries e seen₀ p₀ from₀ k₀ seen p from k = 561 - k
 
 pub follow-lists-spec : {M : Type 1} → statement M
 follow-lists-spec =

@@ -4,10 +4,10 @@ use Rattle.linefiles.proofs.walk.follow_pairs.Statement.{statement}
 use Rattle.linefiles.proofs.walk.follow_pairs.Tie as tie
 
 abbrev Inv-loop : tie.InvT-loop
-Inv-loop disk why entries e p₀ k₀ p k = k ≤ 560
+Inv-loop disk per why entries e p₀ k₀ p k = k ≤ 560
 
 abbrev μ-loop : tie.MeasureT-loop
-μ-loop disk why entries e p₀ k₀ p k = 560 - k
+μ-loop disk per why entries e p₀ k₀ p k = 560 - k
 
 pub follow-pairs-spec : {M : Type 1} → statement M
 follow-pairs-spec =

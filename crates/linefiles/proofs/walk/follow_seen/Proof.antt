@@ -6,10 +6,10 @@ use Rattle.linefiles.proofs.walk.follow_seen.Statement.{statement}
 use Rattle.linefiles.proofs.walk.follow_seen.Tie as tie
 
 abbrev Inv-loop : tie.InvT-loop
-Inv-loop disk why seen₀ from₀ p₀ k₀ seen from p k = (k ≤ 561) × (length seen ≡ length seen₀)
+Inv-loop disk per why seen₀ from₀ p₀ k₀ seen from p k = (k ≤ 561) × (length seen ≡ length seen₀)
 
 abbrev μ-loop : tie.MeasureT-loop
-μ-loop disk why seen₀ from₀ p₀ k₀ seen from p k = 561 - k
+μ-loop disk per why seen₀ from₀ p₀ k₀ seen from p k = 561 - k
 
 pub follow-seen-spec : {M : Type 1} → statement M
 follow-seen-spec =

@@ -4,10 +4,10 @@ use Rattle.linefiles.proofs.walk.live_entries.Statement.{statement}
 use Rattle.linefiles.proofs.walk.live_entries.Tie as tie
 
 abbrev Inv-loop : tie.InvT-loop
-Inv-loop disk p n₀ i₀ n i = i ≤ 7
+Inv-loop disk per p n₀ i₀ n i = i ≤ 7
 
 abbrev μ-loop : tie.MeasureT-loop
-μ-loop disk p n₀ i₀ n i = 7 - i
+μ-loop disk per p n₀ i₀ n i = 7 - i
 
 pub live-entries-spec : {M : Type 1} → statement M
 live-entries-spec =
