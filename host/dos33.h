@@ -1,5 +1,13 @@
 /*
- * Apple DOS 3.3 disks, nibble streams and archives. Link libhost.a (`rt staticlib host`).
+ * Apple DOS 3.3 and DOS 3.2 disks, nibble streams and archives. Link libhost.a (`rt staticlib
+ * host`).
+ *
+ * A flat disk is 35 tracks of sectors of 256 bytes. Its length alone says how many a track has:
+ * 143,360 bytes are 16 (DOS 3.3), 116,480 bytes are 13 (DOS 3.2). Every function that takes a flat
+ * disk takes both; only dos33_nibblize refuses 116,480 bytes, as 1.
+ * A nibble stream is read as the caller says: dos33_denibblize and dos33_sector go by the address
+ * mark D5 AA 96 (h) and 6-and-2 coding, those with _13 by D5 AA B5 (h) and 5-and-3. A stream that
+ * both can read stands for two disks. Which mark comes first: dos33_recognize_prologue.
  *
  * Duties of the caller, for every function:
  *   - each pointer is valid for its length, and not null, even where the length is 0;
@@ -37,8 +45,10 @@ extern "C" {
 /* Refusals. */
 enum {
     DOS33_ACCEPTED = 0,
-    DOS33_OFF_SIZE = 1,         /* flat disk not 143,360 bytes; sector to encode not 256 */
-    DOS33_NO_TABLE = 2,         /* the VTOC check fails */
+    DOS33_OFF_SIZE = 1,         /* flat disk neither 143,360 nor 116,480 bytes (to nibblize: not
+                                   143,360); sector to encode not 256 */
+    DOS33_NO_TABLE = 2,         /* VTOC: tracks not 35 or 40, sectors not 16 or 13 (on a disk
+                                   of 13 sectors a track: not 13) */
     DOS33_OFF_DISC = 3,         /* a page, list, pair or location is not on the disk */
     DOS33_RING = 4,             /* a link leads to a sector already read in its own chain */
     DOS33_CUT_LINK = 5,         /* list: next track nonzero, next sector 0 */
@@ -47,7 +57,8 @@ enum {
     DOS33_ADDRESS_SUM = 8,      /* any whole address that the search meets */
     DOS33_DATA_SUM = 9,         /* a field that counts */
     DOS33_ABSENT = 10,          /* sector not in the stream */
-    DOS33_STRANGER = 11,        /* track over 34, sector over 15 or a second volume */
+    DOS33_STRANGER = 11,        /* track over 34, sector over 15 (of 13 sectors a track: over
+                                   12) or a second volume */
     DOS33_TRAY_SHORT = 12,      /* lent space under the need */
     DOS33_NOT_ITS_RETURN = 13,  /* not the disk's archive, or no archive */
     DOS33_UNWRITABLE_NAME = 14, /* empty, over 30, byte 80h or more */
@@ -70,10 +81,18 @@ enum {
     DOS33_UNKNOWN = 41
 };
 
-/* Space that is always enough. */
+/* Tracks of a disk, and sectors of a track; _13 is DOS 3.2. */
 enum {
-    DOS33_SECTOR_SIZE = 256,
-    DOS33_DISK_SIZE = 143360,       /* denibblize */
+    DOS33_TRACKS = 35,
+    DOS33_SECTORS_PER_TRACK = 16,
+    DOS33_SECTORS_PER_TRACK_13 = 13
+};
+
+/* Space that is always enough, for disks of 16 and of 13 sectors a track. */
+enum {
+    DOS33_SECTOR_SIZE = 256,        /* window, sector, sector_13 */
+    DOS33_DISK_SIZE = 143360,       /* denibblize: 256 * 16 * 35 */
+    DOS33_DISK_SIZE_13 = 116480,    /* denibblize_13: 256 * 13 * 35 */
     DOS33_STREAM_SIZE = 232960,     /* nibblize */
     DOS33_CATALOG_MOST = 145040,    /* catalog: 37 * 7 * 560 */
     DOS33_LISTS_MOST = 1120,        /* lists: 2 * 560 */
@@ -81,7 +100,8 @@ enum {
     DOS33_PAIR_RUN_MOST = 121,      /* pair_run, in pairs */
     DOS33_FILE_MOST = 65536,        /* file, fetch */
     DOS33_ARCHIVE_MOST = 1048576,   /* archive_write: 256 * 4096 */
-    DOS33_NIBBLES_SIZE = 343,       /* encode_sector */
+    DOS33_NIBBLES_SIZE = 343,       /* encode_sector: a sector in 6-and-2, and the sum */
+    DOS33_NIBBLES_SIZE_13 = 411,    /* a sector in 5-and-3, and the sum; it is read, not written */
     DOS33_ENTRY_SIZE = 35,          /* entry_record */
     DOS33_VTOC_FIELDS = 13,
     DOS33_SURVEY_FIELDS = 7,
@@ -96,8 +116,8 @@ typedef struct dos33_track_sector_pair {
     uint8_t sector_number;
 } dos33_track_sector_pair;
 
-/* The 256 bytes of a sector, of `disk` if flat, else of `image`; the other one is not read.
-   1, 3, 12. */
+/* The 256 bytes of a sector, of `disk` if flat, else of `image`; the other one is not read, and the
+   length of the one that is says how many sectors a track has. 1, 3, 12. */
 uint8_t dos33_window(const uint8_t *disk, size_t disk_length,
                      const uint8_t *image, size_t image_length,
                      uint8_t flat, uint8_t track, uint8_t sector,
@@ -105,7 +125,7 @@ uint8_t dos33_window(const uint8_t *disk, size_t disk_length,
 
 /* 13 numbers: first catalog track, first catalog sector, release, volume byte, pair maximum,
    last track, direction (the byte, 255 for -1), tracks, sectors, sector size, free, used, fill.
-   1, 2, 12. */
+   The last three are over all sectors of the disk, 560 or 455. 1, 2, 12. */
 uint8_t dos33_vtoc(const uint8_t *disk, size_t disk_length,
                    uint64_t *fields, size_t fields_length);
 
@@ -137,12 +157,13 @@ uint8_t dos33_fetch(const uint8_t *disk, size_t disk_length,
                     const uint8_t *name, size_t name_length,
                     uint8_t *out, size_t out_length, uint64_t *length);
 
-/* 7 numbers: volume, number of entries, free, used, fill, archive blocks, links followed.
-   1 to 6, 12. */
+/* 7 numbers: volume, number of entries, free, used, fill (as in dos33_vtoc), archive blocks, links
+   followed. 1 to 6, 12. */
 uint8_t dos33_survey(const uint8_t *disk, size_t disk_length,
                      uint64_t *fields, size_t fields_length);
 
-/* The disk's archive. 1 to 6, 7, 12. */
+/* The disk's archive. It does not tell how many sectors a track has: disks of 16 and of 13 with the
+   same contents have the same archive. 1 to 6, 7, 12. */
 uint8_t dos33_archive_write(const uint8_t *disk, size_t disk_length,
                             uint8_t *out, size_t out_length, uint64_t *length);
 
@@ -169,7 +190,7 @@ uint8_t dos33_archive_entry(const uint8_t *archive, size_t archive_length, uint6
 uint8_t dos33_archive_step(const uint8_t *archive, size_t archive_length, uint64_t block,
                            uint64_t *fields, size_t fields_length);
 
-/* 343 bytes: the 342 nibbles of a sector and the sum nibble. 1, 12. */
+/* 343 bytes: the 342 nibbles of a sector in 6-and-2 and the sum nibble. 1, 12. */
 uint8_t dos33_encode_sector(const uint8_t *sector, size_t sector_length,
                             uint8_t *out, size_t out_length, uint64_t *length);
 
@@ -179,11 +200,23 @@ uint8_t dos33_sector(const uint8_t *stream, size_t stream_length,
                      uint8_t volume, uint8_t track, uint8_t sector,
                      uint8_t *out, size_t out_length, uint64_t *length);
 
-/* The flat disk of a nibble stream. 8, 11, 9, 10, 12. */
+/* The flat disk of a nibble stream, 143,360 bytes. 8, 11, 9, 10, 12. */
 uint8_t dos33_denibblize(const uint8_t *stream, size_t stream_length,
                          uint8_t *out, size_t out_length, uint64_t *length);
 
-/* The nibble stream of a flat disk. 1, 12. */
+/* As dos33_sector, by the address mark D5 AA B5 (h) and 5-and-3 coding. Here the address's sector
+   is the DOS sector. 8, 9, 10, 12. */
+uint8_t dos33_sector_13(const uint8_t *stream, size_t stream_length,
+                        uint8_t volume, uint8_t track, uint8_t sector,
+                        uint8_t *out, size_t out_length, uint64_t *length);
+
+/* The flat disk of 13 sectors a track of a nibble stream, 116,480 bytes. An address of the other
+   mark is none here. 8, 11, 9, 10, 12. */
+uint8_t dos33_denibblize_13(const uint8_t *stream, size_t stream_length,
+                            uint8_t *out, size_t out_length, uint64_t *length);
+
+/* The nibble stream of a flat disk of 143,360 bytes; streams of 13 sectors a track are not written.
+   1, 12. */
 uint8_t dos33_nibblize(const uint8_t *disk, size_t disk_length,
                        uint8_t *out, size_t out_length, uint64_t *length);
 
@@ -204,10 +237,12 @@ uint8_t dos33_binary_file(uint8_t kind, uint16_t address, uint16_t size,
                           const uint8_t *data, size_t data_length,
                           uint8_t *out, size_t out_length, uint64_t *length);
 
-/* The result is 96h or B5h, whichever first follows D5 AA (h), or 0 for none. */
+/* The result is 96h (16 sectors a track) or B5h (13), whichever first follows D5 AA (h), or 0 for
+   none. */
 uint8_t dos33_recognize_prologue(const uint8_t *stream, size_t stream_length);
 
-/* 1 number: 1 for a DOS 3.3 disk, else 0. 17, 12. */
+/* 1 number: 1 for a DOS 3.3 disk, else 0. It looks at the first nine bytes, and at three where a
+   disk of 16 sectors a track has its VTOC. 17, 12. */
 uint8_t dos33_format_from_data(const uint8_t *data, size_t data_length,
                                uint64_t *fields, size_t fields_length);
 

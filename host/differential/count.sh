@@ -15,5 +15,10 @@ echo "instructions of one call on a full disk of $files files"
 for thing in $("$program" --count); do
     once=$(collected "$thing" 20)
     twice=$(collected "$thing" 40)
-    printf '%-20s %12d\n' "$thing" $(((twice - once) / 20))
+    one=$(((twice - once) / 20))
+    printf '%-20s %12d\n' "$thing" "$one"
+    case $thing in
+    denibblize) printf '%-20s %12d\n' '  a sector of 560' $((one / 560)) ;;
+    denibblize-13) printf '%-20s %12d\n' '  a sector of 455' $((one / 455)) ;;
+    esac
 done

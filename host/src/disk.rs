@@ -1,18 +1,21 @@
 use crate::types::locations;
 use crate::{
-    denibblize, lend, nibblize, raw, Archive, CatalogEntry, File, FileType, Location, Name,
-    Refusal, Sector, Survey, Track, TrackSectorPair, Vtoc,
+    denibblize, denibblize_13, lend, nibblize, raw, Archive, CatalogEntry, File, FileType,
+    Location, Name, Refusal, Sector, Survey, Track, TrackSectorPair, Vtoc, SECTORS_PER_TRACK,
+    TRACKS,
 };
 
-// The most that each call can need.
-const CATALOG_MOST: usize = 37 * 7 * 560;
-const LISTS_MOST: usize = 2 * 560;
+// The most that each call can need. A disk of 13 sectors a track has less of everything.
+const SECTORS_MOST: usize = SECTORS_PER_TRACK * TRACKS;
+const CATALOG_MOST: usize = 37 * 7 * SECTORS_MOST;
+const LISTS_MOST: usize = 2 * SECTORS_MOST;
 const PAIRS_MOST: usize = 2 * 121;
 // A length of 65,535 at most, or all of 256 sectors at most: with one sector more every length fits.
 const FILE_MOST: usize = 65_536;
 const ARCHIVE_MOST: usize = 256 * 4096;
 
-/// A disk: a flat image that is borrowed, or the image of a nibble stream.
+/// A disk: a flat image that is borrowed, or the image of a nibble stream. It has 16 sectors a track
+/// ([`DISK_SIZE`](crate::DISK_SIZE) bytes) or 13 ([`DISK_SIZE_13`](crate::DISK_SIZE_13)).
 ///
 /// ```
 /// use dos33::{Disk, Sector, Track};
@@ -56,13 +59,43 @@ impl<'a> Disk<'a> {
         }
     }
 
-    /// The disk of a nibble stream, which is denibblized here, once.
+    /// The disk of a nibble stream of 16 sectors a track, which is denibblized here, once.
     ///
     /// # Errors
     /// 8, 11, 9, 10, in this order.
     pub fn nibbles(stream: &[u8]) -> Result<Disk<'static>, Refusal> {
         Ok(Disk {
             image: Image::Unrolled(denibblize(stream)?),
+        })
+    }
+
+    /// The disk of a nibble stream of 13 sectors a track, which is denibblized here, once.
+    ///
+    /// The caller says which of the two a stream is; nothing is guessed. One that both calls accept
+    /// stands for two disks, one for each. [`recognize_prologue`](crate::recognize_prologue) tells which
+    /// address mark comes first:
+    ///
+    /// ```
+    /// use dos33::{recognize_prologue, Disk, Prologue, Refusal};
+    ///
+    /// fn disk(stream: &[u8]) -> Result<Disk<'static>, Refusal> {
+    ///     match recognize_prologue(stream) {
+    ///         Some(Prologue::ThirteenSectors) => Disk::nibbles_13(stream),
+    ///         _ => Disk::nibbles(stream),
+    ///     }
+    /// }
+    ///
+    /// let stream = dos33::nibblize(&[0; dos33::DISK_SIZE])?;
+    /// assert_eq!(disk(&stream)?.bytes().len(), dos33::DISK_SIZE);
+    /// assert_eq!(Disk::nibbles_13(&stream).unwrap_err(), Refusal::Absent);
+    /// # Ok::<(), Refusal>(())
+    /// ```
+    ///
+    /// # Errors
+    /// 8, 11, 9, 10, in this order.
+    pub fn nibbles_13(stream: &[u8]) -> Result<Disk<'static>, Refusal> {
+        Ok(Disk {
+            image: Image::Unrolled(denibblize_13(stream)?),
         })
     }
 
@@ -340,10 +373,11 @@ impl<'a> Disk<'a> {
         })
     }
 
-    /// The disk as a nibble stream of 232,960 bytes, with the VTOC's volume.
+    /// The disk as a nibble stream of 232,960 bytes, with the VTOC's volume. Streams of 13 sectors a
+    /// track are not written.
     ///
     /// # Errors
-    /// 1.
+    /// 1, also for a disk of 13 sectors a track.
     pub fn nibblize(&self) -> Result<Vec<u8>, Refusal> {
         nibblize(self.bytes())
     }

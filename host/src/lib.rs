@@ -1,4 +1,4 @@
-//! Apple DOS 3.3 disks for displays and tools: catalog, files, nibble streams and archives.
+//! Apple DOS 3.3 and DOS 3.2 disks for displays and tools: catalog, files, nibble streams and archives.
 //!
 //! The work is done by functions that are proved to give what document 01 defines, on every input.
 //! This crate lends them the space they need, and takes apart what they hand over. No call panics;
@@ -36,13 +36,25 @@
 //! # Ok::<(), dos33::Refusal>(())
 //! ```
 //!
-//! | document 01 | here |
+//! # 16 and 13 sectors a track
+//!
+//! A flat disk's length alone says its edition: [`DISK_SIZE`] bytes are 16 sectors a track (DOS 3.3),
+//! [`DISK_SIZE_13`] bytes are 13 (DOS 3.2). Every call on a [`Disk`] takes both, but
+//! [`Disk::nibblize`], which refuses 13 as 1: their streams are read, not written. The archive is the
+//! same for the same contents on either.
+//!
+//! A stream's edition is said by the call and never guessed: [`Disk::nibbles`], [`denibblize`] and
+//! [`stream_sector`] read 16, [`Disk::nibbles_13`], [`denibblize_13`] and [`stream_sector_13`] read 13.
+//! A stream that both can read stands for two disks. Which address mark comes first in a stream is told
+//! by [`recognize_prologue`].
+//!
+//! | documents 01 and 02 | here |
 //! |---|---|
 //! | disc, roll, thread, load | [`Disk`], [`Disk::catalog`], [`Disk::lists`], [`Disk::file`], [`Disk::files`] |
 //! | list, lent run of pairs | [`Disk::pairs`], [`Disk::pair_run`] |
 //! | window, survey | [`Disk::sector`], [`Disk::survey`] |
 //! | return | [`Disk::archive`], [`Disk::check`], [`Archive`] |
-//! | unroll, nibble writer | [`denibblize`], [`nibblize`] |
+//! | unroll, nibble writer | [`denibblize`], [`denibblize_13`], [`nibblize`] |
 //! | slip, number | [`Refusal`], [`Refusal::number`] |
 //!
 //! Two costs to know. [`Archive::open`] and [`Archive::entry`] go as deep as the archive has blocks, so
@@ -63,8 +75,8 @@ mod types;
 pub use archive::{Archive, ArchiveEntry, Data, Entries};
 pub use disk::Disk;
 pub use nibbles::{
-    denibblize, encode_sector, format_from_data, nibblize, recognize_prologue, stream_sector, Key,
-    Prologue,
+    denibblize, denibblize_13, encode_sector, format_from_data, nibblize, recognize_prologue,
+    stream_sector, stream_sector_13, Key, Prologue,
 };
 pub use records::{binary_file, catalog_page, EntryRecord};
 pub use refusal::Refusal;
@@ -72,8 +84,20 @@ pub use types::{
     CatalogEntry, File, FileType, Location, Name, Sector, Survey, Track, TrackSectorPair, Vtoc,
 };
 
-/// The bytes of a flat disk: 35 tracks of 16 sectors of 256.
-pub const DISK_SIZE: usize = 143_360;
+/// The tracks of a disk.
+pub const TRACKS: usize = 35;
+
+/// The sectors of a track on a DOS 3.3 disk.
+pub const SECTORS_PER_TRACK: usize = 16;
+
+/// The sectors of a track on a DOS 3.2 disk.
+pub const SECTORS_PER_TRACK_13: usize = 13;
+
+/// The bytes of a flat disk of 16 sectors a track: 143,360.
+pub const DISK_SIZE: usize = 256 * SECTORS_PER_TRACK * TRACKS;
+
+/// The bytes of a flat disk of 13 sectors a track: 116,480.
+pub const DISK_SIZE_13: usize = 256 * SECTORS_PER_TRACK_13 * TRACKS;
 
 /// The bytes of a stream that [`nibblize`] writes.
 pub const STREAM_SIZE: usize = 232_960;

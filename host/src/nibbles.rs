@@ -1,4 +1,4 @@
-use crate::{lend, raw, Refusal, DISK_SIZE, STREAM_SIZE};
+use crate::{lend, raw, Refusal, DISK_SIZE, DISK_SIZE_13, STREAM_SIZE};
 
 /// The key of a field in a nibble stream: what its address says.
 #[derive(Clone, Copy, Debug, PartialEq, Eq, Hash, PartialOrd, Ord)]
@@ -7,11 +7,12 @@ pub struct Key {
     pub volume: u8,
     /// Track.
     pub track: u8,
-    /// The address's sector, not the DOS sector: address sector 1 is DOS sector 7.
+    /// The address's sector. Of 16 sectors a track it is not the DOS sector: address sector 1 is DOS
+    /// sector 7. Of 13 it is.
     pub sector: u8,
 }
 
-/// A sector as 342 nibbles and the sum nibble.
+/// A sector as 342 nibbles of 6-and-2 and the sum nibble.
 ///
 /// # Errors
 /// 1 for other than 256 bytes.
@@ -27,7 +28,8 @@ pub fn encode_sector(sector: &[u8]) -> Result<[u8; 343], Refusal> {
     })
 }
 
-/// A sector of a nibble stream, by its key. The whole stream is judged, whichever key is asked for.
+/// A sector of a nibble stream of 16 sectors a track, by its key. The whole stream is judged, whichever
+/// key is asked for.
 ///
 /// # Errors
 /// 8, 9, 10, in this order.
@@ -57,7 +59,40 @@ pub fn stream_sector(stream: &[u8], key: Key) -> Result<[u8; 256], Refusal> {
     })
 }
 
-/// The flat disk of a nibble stream, [`DISK_SIZE`] bytes.
+/// A sector of a nibble stream of 13 sectors a track (address mark D5 AA B5 (h), 5-and-3 coding), by its
+/// key. The whole stream is judged, whichever key is asked for.
+///
+/// # Errors
+/// 8, 9, 10, in this order.
+///
+/// ```
+/// use dos33::{stream_sector, stream_sector_13, Key, Refusal};
+///
+/// // Volume, track, sector and their sum are 0. In 5-and-3 a sector of zeros is 411 times ABh.
+/// let address = b"\xD5\xAA\xB5\xAA\xAA\xAA\xAA\xAA\xAA\xAA\xAA\xDE\xAA\xEB";
+/// let stream = [&address[..], b"\xD5\xAA\xAD", &[0xAB; 411], b"\xDE\xAA\xEB"].concat();
+/// let key = Key { volume: 0, track: 0, sector: 0 };
+/// assert_eq!(stream_sector_13(&stream, key)?, [0; 256]);
+/// assert_eq!(stream_sector(&stream, key), Err(Refusal::Absent));
+/// # Ok::<(), Refusal>(())
+/// ```
+pub fn stream_sector_13(stream: &[u8], key: Key) -> Result<[u8; 256], Refusal> {
+    // SAFETY: as in `encode_sector`.
+    lend::array(|o, n, l| unsafe {
+        raw::dos33_sector_13(
+            stream.as_ptr(),
+            stream.len(),
+            key.volume,
+            key.track,
+            key.sector,
+            o,
+            n,
+            l,
+        )
+    })
+}
+
+/// The flat disk of a nibble stream of 16 sectors a track, [`DISK_SIZE`] bytes.
 ///
 /// # Errors
 /// 8, 11, 9, 10, in this order.
@@ -68,10 +103,40 @@ pub fn denibblize(stream: &[u8]) -> Result<Vec<u8>, Refusal> {
     })
 }
 
-/// The nibble stream of a flat disk, [`STREAM_SIZE`] bytes.
+/// The flat disk of a nibble stream of 13 sectors a track, [`DISK_SIZE_13`] bytes. Addresses of the mark
+/// D5 AA 96 (h) are none here, as those of D5 AA B5 (h) are none to [`denibblize`].
 ///
 /// # Errors
-/// 1.
+/// 8, 11, 9, 10, in this order.
+///
+/// ```
+/// // 455 sectors of zeros, of volume 1.
+/// let mut stream = Vec::new();
+/// for (track, sector) in (0..35).flat_map(|t| (0..13).map(move |s| (t, s))) {
+///     stream.extend(b"\xD5\xAA\xB5");
+///     for value in [1, track, sector, 1 ^ track ^ sector] {
+///         stream.extend([value >> 1 | 0xAA, value | 0xAA]);
+///     }
+///     stream.extend(b"\xDE\xAA\xEB\xD5\xAA\xAD");
+///     stream.extend([0xAB; 411]);
+///     stream.extend(b"\xDE\xAA\xEB");
+/// }
+/// assert_eq!(dos33::denibblize_13(&stream)?, [0; dos33::DISK_SIZE_13]);
+/// assert_eq!(dos33::denibblize(&stream), Err(dos33::Refusal::Absent));
+/// # Ok::<(), dos33::Refusal>(())
+/// ```
+pub fn denibblize_13(stream: &[u8]) -> Result<Vec<u8>, Refusal> {
+    // SAFETY: as in `encode_sector`.
+    lend::bytes(DISK_SIZE_13, |o, n, l| unsafe {
+        raw::dos33_denibblize_13(stream.as_ptr(), stream.len(), o, n, l)
+    })
+}
+
+/// The nibble stream of a flat disk of [`DISK_SIZE`] bytes, [`STREAM_SIZE`] bytes. Streams of 13 sectors
+/// a track are not written.
+///
+/// # Errors
+/// 1, also for [`DISK_SIZE_13`] bytes.
 ///
 /// ```
 /// let disk = vec![0x5A; dos33::DISK_SIZE];
@@ -88,13 +153,14 @@ pub fn nibblize(disk: &[u8]) -> Result<Vec<u8>, Refusal> {
 /// The mark of an address field.
 #[derive(Clone, Copy, Debug, PartialEq, Eq, Hash)]
 pub enum Prologue {
-    /// D5 AA 96 (h): disks of 16 sectors a track.
+    /// D5 AA 96 (h): disks of 16 sectors a track, which [`denibblize`] reads.
     SixteenSectors,
-    /// D5 AA B5 (h): disks of 13 sectors a track.
+    /// D5 AA B5 (h): disks of 13 sectors a track, which [`denibblize_13`] reads.
     ThirteenSectors,
 }
 
-/// The address mark that comes first in a stream, if there is one.
+/// The address mark that comes first in a stream, if there is one. The other may come behind it: a stream
+/// can hold both.
 ///
 /// ```
 /// use dos33::{recognize_prologue, Prologue};
@@ -111,7 +177,8 @@ pub fn recognize_prologue(stream: &[u8]) -> Option<Prologue> {
     }
 }
 
-/// Whether the bytes look like a DOS 3.3 disk: its first nine bytes, and three of the VTOC.
+/// Whether the bytes look like a DOS 3.3 disk: its first nine bytes, and three where a disk of 16 sectors
+/// a track has its VTOC.
 ///
 /// # Errors
 /// 17 for too few bytes to tell.

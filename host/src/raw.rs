@@ -1,5 +1,8 @@
 //! The exported functions as they are. The safe calls of this crate stand on them.
 //!
+//! A flat disk is 143,360 bytes (16 sectors a track) or 116,480 (13); its length alone says which.
+//! Only [`dos33_nibblize`] refuses the second. A stream is read by the coding that the caller names.
+//!
 //! A slice is a pointer and a length (of `fields` and `run`: in elements). The result is the number of
 //! a refusal, 0 for accepted; only [`dos33_recognize_prologue`] gives something else. Under a refusal
 //! nothing lent changes. Where a call is accepted, `out` receives the bytes and `*length` their number,
@@ -15,7 +18,8 @@
 use crate::TrackSectorPair;
 
 extern "C" {
-    /// The 256 bytes of a sector, of `disk` if `flat` is not 0, else of `image`. Refusals 1, 3, 12.
+    /// The 256 bytes of a sector, of `disk` if `flat` is not 0, else of `image`. The length of the one
+    /// that is read says how many sectors a track has. Refusals 1, 3, 12.
     pub fn dos33_window(
         disk: *const u8,
         disk_length: usize,
@@ -30,7 +34,8 @@ extern "C" {
     ) -> u8;
 
     /// 13 numbers: first catalog track, first catalog sector, release, volume byte, pair maximum, last
-    /// track, direction (a byte), tracks, sectors, sector size, free, used, fill. Refusals 1, 2, 12.
+    /// track, direction (a byte), tracks, sectors, sector size, free, used, fill. The last three are over
+    /// 560 sectors, or 455. Refusals 1, 2, 12.
     pub fn dos33_vtoc(
         disk: *const u8,
         disk_length: usize,
@@ -169,7 +174,8 @@ extern "C" {
         length: *mut u64,
     ) -> u8;
 
-    /// The 256 bytes of a sector of a stream, by the key of its address field. Refusals 8, 9, 10, 12.
+    /// The 256 bytes of a sector of a stream of 16 sectors a track, by the key of its address field.
+    /// Refusals 8, 9, 10, 12.
     pub fn dos33_sector(
         stream: *const u8,
         stream_length: usize,
@@ -181,7 +187,7 @@ extern "C" {
         length: *mut u64,
     ) -> u8;
 
-    /// The flat disk of a stream, 143,360 bytes. Refusals 8, 11, 9, 10, 12.
+    /// The flat disk of a stream of 16 sectors a track, 143,360 bytes. Refusals 8, 11, 9, 10, 12.
     pub fn dos33_denibblize(
         stream: *const u8,
         stream_length: usize,
@@ -190,7 +196,29 @@ extern "C" {
         length: *mut u64,
     ) -> u8;
 
-    /// The nibble stream of a flat disk, 232,960 bytes. Refusals 1, 12.
+    /// The 256 bytes of a sector of a stream of 13 sectors a track, by the key of its address field.
+    /// Refusals 8, 9, 10, 12.
+    pub fn dos33_sector_13(
+        stream: *const u8,
+        stream_length: usize,
+        volume: u8,
+        track: u8,
+        sector: u8,
+        out: *mut u8,
+        out_length: usize,
+        length: *mut u64,
+    ) -> u8;
+
+    /// The flat disk of a stream of 13 sectors a track, 116,480 bytes. Refusals 8, 11, 9, 10, 12.
+    pub fn dos33_denibblize_13(
+        stream: *const u8,
+        stream_length: usize,
+        out: *mut u8,
+        out_length: usize,
+        length: *mut u64,
+    ) -> u8;
+
+    /// The nibble stream of a flat disk of 143,360 bytes, 232,960 bytes. Refusals 1, 12.
     pub fn dos33_nibblize(
         disk: *const u8,
         disk_length: usize,

@@ -14,9 +14,11 @@ use std::fmt;
 #[derive(Clone, Copy, Debug, PartialEq, Eq, Hash, PartialOrd, Ord)]
 #[non_exhaustive]
 pub enum Refusal {
-    /// 1: a flat disk that is not 143,360 bytes, or a sector to encode that is not 256.
+    /// 1: a flat disk that is neither 143,360 nor 116,480 bytes (to nibblize: not 143,360), or a sector
+    /// to encode that is not 256.
     OffSize,
-    /// 2: the VTOC's tracks are not 35 or 40, or its sectors not 13 or 16.
+    /// 2: the VTOC's tracks are not 35 or 40, or its sectors not 13 or 16; on a disk of 13 sectors a
+    /// track: not 13.
     NoTable,
     /// 3: a followed page, list or pair, or a location asked for, is not on the disk.
     OffDisc,
@@ -34,7 +36,8 @@ pub enum Refusal {
     DataSum,
     /// 10: a sector is not in the stream.
     Absent,
-    /// 11: a stream has a track over 34, a sector over 15 or a second volume.
+    /// 11: a stream has a track over 34, a sector over 15 (of 13 sectors a track: over 12) or a second
+    /// volume.
     Stranger,
     /// 12: lent space is under the need. Only [`Disk::pair_run`](crate::Disk::pair_run) gives it; the
     /// other calls of this crate lend enough themselves.

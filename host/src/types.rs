@@ -4,7 +4,7 @@ use std::fmt;
 #[derive(Clone, Copy, Debug, PartialEq, Eq, Hash, PartialOrd, Ord)]
 pub struct Track(pub u8);
 
-/// A DOS sector number. On a disk: 0 to 15.
+/// A DOS sector number. On a disk: 0 to 15, or 0 to 12 where a track has 13 sectors.
 #[derive(Clone, Copy, Debug, PartialEq, Eq, Hash, PartialOrd, Ord)]
 pub struct Sector(pub u8);
 
@@ -219,13 +219,14 @@ pub struct Vtoc {
     pub direction: i8,
     /// Tracks: 35 or 40.
     pub tracks: u8,
-    /// Sectors per track: 13 or 16.
+    /// Sectors per track, as stated: 13 or 16, and 13 alone on a disk of 13 sectors a track. What a disk
+    /// has is said by its length.
     pub sectors: u8,
     /// Stated bytes per sector.
     pub sector_size: u16,
-    /// Free sectors of 560.
+    /// Free sectors, of 560 or of 455.
     pub free: u16,
-    /// Used sectors: 560 less free.
+    /// Used sectors: 560 or 455, less free.
     pub used: u16,
     /// Used in percent, a half going up.
     pub percent_used: u8,
@@ -238,7 +239,7 @@ pub struct Survey {
     pub volume: u8,
     /// Live entries of the catalog.
     pub entries: u64,
-    /// Free sectors of 560.
+    /// Free sectors, of 560 or of 455.
     pub free: u16,
     /// Used sectors.
     pub used: u16,

@@ -1,6 +1,6 @@
 // Archives written, checked, opened, stepped through and damaged.
 mod common;
-use common::{binary, disk};
+use common::{at_of, binary, disk, disk_of, five_three};
 use dos33::*;
 
 // Opening gives what the disk has.
@@ -168,26 +168,26 @@ fn the_largest_archives() {
 }
 
 // Disks with a few bytes changed by chance: whatever is accepted agrees, whatever is refused is refused alike.
-#[test]
-fn by_chance() {
-    let mut dice = common::Dice(0xD0533);
-    let good = disk();
+fn disks_by_chance(per: usize, seed: u64) {
+    let mut dice = common::Dice(seed);
+    let good = disk_of(per);
+    let (last, other) = (per - 1, per - 2);
     // Bytes that links, lists, names and types stand in.
     let places: Vec<usize> = [
         (17, 0),
-        (17, 15),
-        (17, 14),
-        (18, 15),
-        (18, 14),
-        (19, 15),
-        (20, 15),
+        (17, last),
+        (17, other),
+        (18, last),
+        (18, other),
+        (19, last),
+        (20, last),
         (18, 1),
     ]
     .into_iter()
-    .map(|(t, s)| common::at(t, s))
+    .map(|(t, s)| at_of(per, t, s))
     .collect();
     let (mut accepted, mut refused) = (0, [0; 19]);
-    for _ in 0..1000 {
+    for round in 0..1000 {
         let mut d = good.clone();
         for _ in 0..1 + dice.roll(4) {
             let i = places[dice.roll(places.len())];
@@ -198,7 +198,7 @@ fn by_chance() {
                 // A link.
                 _ => {
                     d[i + 1] = 17 + dice.roll(4) as u8;
-                    d[i + 2] = [15, 14, 1, 0][dice.roll(4)];
+                    d[i + 2] = [last as u8, other as u8, 1, 0][dice.roll(4)];
                 }
             }
         }
@@ -218,12 +218,28 @@ fn by_chance() {
                 assert_eq!(disk.check(&[]), Err(r));
             }
         }
-        let unrolled = Disk::nibbles(&disk.nibblize().unwrap()).unwrap();
-        assert_eq!(unrolled.bytes(), d);
+        // The encoder of these tests is slow.
+        if per == 16 {
+            let unrolled = Disk::nibbles(&disk.nibblize().unwrap());
+            assert_eq!(unrolled.unwrap().bytes(), d);
+        } else if round % 10 == 0 {
+            let unrolled = Disk::nibbles_13(&five_three::stream(&d, 1));
+            assert_eq!(unrolled.unwrap().bytes(), d);
+        }
     }
     assert!(accepted > 100, "{accepted}");
     assert!((2..6).all(|r| refused[r] > 0), "{refused:?}");
     assert_eq!(accepted + refused[2..7].iter().sum::<i32>(), 1000);
+}
+
+#[test]
+fn by_chance() {
+    disks_by_chance(16, 0xD0533);
+}
+
+#[test]
+fn by_chance_with_13_sectors() {
+    disks_by_chance(13, 0xD0532);
 }
 
 // Bytes by chance are answered by every call.
@@ -231,13 +247,14 @@ fn by_chance() {
 fn any_bytes_have_an_answer() {
     let mut dice = common::Dice(0xABCDEF);
     for k in 0..60usize {
-        let size = if k % 2 == 0 {
-            DISK_SIZE
-        } else {
-            dice.roll(4096)
+        let size = match k % 3 {
+            0 => DISK_SIZE,
+            1 => DISK_SIZE_13,
+            _ => dice.roll(4096),
         };
         let bytes: Vec<u8> = (0..size).map(|_| dice.roll(256) as u8).collect();
         let disk = Disk::flat(&bytes);
+        assert_eq!(disk.vtoc() == Err(Refusal::OffSize), k % 3 == 2);
         let _ = (
             disk.vtoc(),
             disk.catalog(),
@@ -261,6 +278,7 @@ fn any_bytes_have_an_answer() {
         );
         let _ = (
             Disk::nibbles(&bytes),
+            Disk::nibbles_13(&bytes),
             recognize_prologue(&bytes),
             format_from_data(&bytes),
         );

@@ -1,6 +1,6 @@
 // The raw functions: what is lent stays as it is under a refusal, and past what is written.
 mod common;
-use common::disk;
+use common::{at_13, disk, disk_13, five_three};
 use dos33::raw::*;
 
 const OLD: u8 = 0xA7;
@@ -219,6 +219,121 @@ fn calls_on_streams() {
             [0]
         );
         refuses_numbers(17, &|f, m| dos33_format_from_data(p, 8, f, m));
+    }
+}
+
+// A disk of 13 sectors a track: the same bytes and numbers, but for free, used and where the lists stand.
+#[test]
+fn calls_on_a_flat_disk_of_13() {
+    let d = disk_13();
+    let mut ring = d.clone();
+    ring[at_13(18, 11) + 1] = 18;
+    ring[at_13(18, 11) + 2] = 12;
+    let mut table = d.clone();
+    table[at_13(17, 0) + 53] = 16;
+    let (p, n) = (d.as_ptr(), d.len());
+    let (rp, tp) = (ring.as_ptr(), table.as_ptr());
+    unsafe {
+        let window = hands(256, &|o, m, l| dos33_window(p, n, p, 0, 1, 18, 12, o, m, l));
+        assert_eq!(window, d[at_13(18, 12)..at_13(19, 0)]);
+        assert_eq!(
+            hands(256, &|o, m, l| dos33_window(p, 0, p, n, 0, 18, 12, o, m, l)),
+            window
+        );
+        refuses(1, &|o, m, l| {
+            dos33_window(p, n - 1, p, n, 1, 18, 12, o, m, l)
+        });
+        refuses(3, &|o, m, l| dos33_window(p, n, p, 0, 1, 18, 13, o, m, l));
+        refuses(3, &|o, m, l| dos33_window(p, 0, p, n, 0, 18, 13, o, m, l));
+
+        hands(3 * 37, &|o, m, l| dos33_catalog(p, n, o, m, l));
+        refuses(1, &|o, m, l| dos33_catalog(p, n - 1, o, m, l));
+        refuses(2, &|o, m, l| dos33_catalog(tp, n, o, m, l));
+        assert_eq!(
+            hands(4, &|o, m, l| dos33_lists(p, n, 0, o, m, l)),
+            [18, 12, 18, 11]
+        );
+        refuses(2, &|o, m, l| dos33_lists(tp, n, 0, o, m, l));
+        refuses(4, &|o, m, l| dos33_lists(rp, n, 2, o, m, l));
+        assert_eq!(
+            hands(4, &|o, m, l| dos33_pairs(p, n, 18, 12, o, m, l)),
+            [18, 1, 18, 2]
+        );
+        refuses(3, &|o, m, l| dos33_pairs(p, n, 18, 13, o, m, l));
+        assert_eq!(
+            hands(600, &|o, m, l| dos33_file(p, n, 0, o, m, l)),
+            common::binary()
+        );
+        refuses(4, &|o, m, l| dos33_file(rp, n, 0, o, m, l));
+        let name = b"LINE 7";
+        let got = hands(3, &|o, m, l| dos33_fetch(p, n, name.as_ptr(), 6, o, m, l));
+        assert_eq!(got, [11, 22, 33]);
+        refuses(18, &|o, m, l| dos33_fetch(p, n, name.as_ptr(), 5, o, m, l));
+        refuses(2, &|o, m, l| dos33_fetch(tp, n, name.as_ptr(), 5, o, m, l));
+
+        let archive = hands(8 * 256, &|o, m, l| dos33_archive_write(p, n, o, m, l));
+        let (a, k) = (archive.as_ptr(), archive.len());
+        assert_eq!(dos33_archive_check(p, n, a, k), 0);
+        assert_eq!(dos33_archive_check(p, n, a, k - 1), 13);
+        assert_eq!(dos33_archive_check(rp, n, a, k), 4);
+        refuses(4, &|o, m, l| dos33_archive_write(rp, n, o, m, l));
+
+        assert_eq!(
+            hands_numbers(13, &|f, m| dos33_vtoc(p, n, f, m)),
+            [17, 12, 3, 254, 122, 18, 255, 35, 13, 256, 13, 442, 97]
+        );
+        refuses_numbers(2, &|f, m| dos33_vtoc(tp, n, f, m));
+        assert_eq!(
+            hands_numbers(7, &|f, m| dos33_survey(p, n, f, m)),
+            [254, 3, 13, 442, 97, 8, 6]
+        );
+        refuses_numbers(4, &|f, m| dos33_survey(rp, n, f, m));
+        refuses(1, &|o, m, l| dos33_nibblize(p, n, o, m, l));
+    }
+}
+
+#[test]
+fn calls_on_streams_of_13() {
+    let d = disk_13();
+    let stream = five_three::stream(&d, 254);
+    let (s, k) = (stream.as_ptr(), stream.len());
+    unsafe {
+        assert_eq!(
+            hands(116_480, &|o, m, l| dos33_denibblize_13(s, k, o, m, l)),
+            d
+        );
+        assert_eq!(
+            hands(256, &|o, m, l| dos33_sector_13(s, k, 254, 18, 1, o, m, l)),
+            d[at_13(18, 1)..at_13(18, 2)]
+        );
+        refuses(10, &|o, m, l| dos33_denibblize_13(s, k - 1, o, m, l));
+        refuses(10, &|o, m, l| dos33_denibblize_13(s, 0, o, m, l));
+        refuses(10, &|o, m, l| dos33_sector_13(s, k, 0, 0, 0, o, m, l));
+        refuses(10, &|o, m, l| dos33_sector_13(s, k, 254, 0, 13, o, m, l));
+        refuses(10, &|o, m, l| dos33_denibblize(s, k, o, m, l));
+        // The last field is bad: nothing of those before it is handed over.
+        let last = k - five_three::FIELD;
+        let (mut eight, mut nine, mut eleven) = (stream.clone(), stream.clone(), stream.clone());
+        eight[last + five_three::ADDRESS + 7] ^= 1;
+        let sum = last + five_three::SUM;
+        nine[sum] = if nine[sum] == 0xAB { 0xAD } else { 0xAB };
+        let far = five_three::address(254, 34, 13, 254 ^ 34 ^ 13);
+        eleven[last + 40..last + 51].copy_from_slice(&far);
+        for (bad, due) in [(&eight, 8), (&nine, 9), (&eleven, 11)] {
+            refuses(due, &|o, m, l| {
+                dos33_denibblize_13(bad.as_ptr(), k, o, m, l)
+            });
+        }
+        for (bad, due) in [(&eight, 8), (&nine, 9)] {
+            refuses(due, &|o, m, l| {
+                dos33_sector_13(bad.as_ptr(), k, 254, 0, 0, o, m, l)
+            });
+        }
+        // By key there is no 11.
+        hands(256, &|o, m, l| {
+            dos33_sector_13(eleven.as_ptr(), k, 254, 34, 13, o, m, l)
+        });
+        assert_eq!(dos33_recognize_prologue(s, k), 0xB5);
     }
 }
 

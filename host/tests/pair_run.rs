@@ -1,6 +1,6 @@
 // The pairs of a list in a lent run.
 mod common;
-use common::{at, disk};
+use common::{at, at_13, disk, disk_13};
 use dos33::raw::{dos33_pair_run, dos33_pairs};
 use dos33::*;
 
@@ -149,13 +149,44 @@ fn refusals_in_order() {
     assert_eq!(call(&d, 30, 0, 6).0, 0);
 }
 
+// The same on a disk of 13 sectors a track: 12 is the last sector, 13 is off the disk.
+#[test]
+fn refusals_in_order_with_13_sectors() {
+    let mut d = disk_13();
+    d[at_13(30, 12) + 12..at_13(30, 12) + 18].copy_from_slice(&[1, 13, 2, 14, 200, 99]);
+    let due = [pair(1, 13), pair(2, 14), pair(200, 99)];
+    assert_eq!(call(&d, 30, 12, 3), (0, 3, due.to_vec()));
+    assert_eq!(
+        call(&d, 30, 12, 5),
+        (0, 3, [&due[..], &[OLD, OLD]].concat())
+    );
+    for room in 0..3 {
+        assert_eq!(call(&d, 30, 12, room), (12, OLD_LENGTH, vec![OLD; room]));
+    }
+    let longer = [&d[..], &[0]].concat();
+    for (track, sector) in [(30, 13), (30, 15), (34, 13), (35, 0), (255, 255)] {
+        for room in [0, 2, 121] {
+            let number = |d| call(d, track, sector, room);
+            assert_eq!(number(&d), (3, OLD_LENGTH, vec![OLD; room]));
+            assert_eq!(number(&d[1..]), (1, OLD_LENGTH, vec![OLD; room]));
+            assert_eq!(number(&longer), (1, OLD_LENGTH, vec![OLD; room]));
+        }
+    }
+    // No table is asked for.
+    d[at_13(17, 0) + 53] = 16;
+    assert_eq!(call(&d, 30, 12, 3).0, 0);
+}
+
 // Every sector of disks by chance, read as a list: the bytes of `dos33_pairs`, two by two.
 #[test]
 fn the_same_as_the_bytes() {
     let mut dice = common::Dice(0x9A125);
     let mut lengths = [0; 122];
-    for zeros in [1, 8, 40, 200] {
-        let d: Vec<u8> = (0..DISK_SIZE)
+    for (zeros, size) in [1, 8, 40, 200]
+        .into_iter()
+        .flat_map(|z| [(z, DISK_SIZE), (z, DISK_SIZE_13)])
+    {
+        let d: Vec<u8> = (0..size)
             .map(|_| (dice.roll(255 + zeros)).saturating_sub(zeros - 1) as u8)
             .collect();
         for (t, s) in (0..=35u8).flat_map(|t| (0..=16u8).map(move |s| (t, s))) {
@@ -166,6 +197,8 @@ fn the_same_as_the_bytes() {
             let p = out.as_mut_ptr();
             let due = unsafe { dos33_pairs(d.as_ptr(), d.len(), t, s, p, 2 * room, &mut bytes) };
             assert_eq!(number, due, "{t}/{s}");
+            let on = t < 35 && usize::from(s) < size / 256 / TRACKS;
+            assert_eq!(number == 3, !on, "{t}/{s}");
             if number == 0 {
                 assert_eq!(2 * length, bytes, "{t}/{s}");
                 let n = length as usize;

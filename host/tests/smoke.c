@@ -1,4 +1,5 @@
-/* A disk with one Binary file, through every function of dos33.h. Ends with 0 and the word "good". */
+/* A disk with one Binary file, and a stream of 13 sectors a track, through every function of dos33.h.
+   Ends with 0 and the word "good". */
 #include "dos33.h"
 
 #include <stdio.h>
@@ -11,6 +12,32 @@ static uint8_t stream[DOS33_STREAM_SIZE], archive[DOS33_ARCHIVE_MOST];
 static uint8_t out[DOS33_CATALOG_MOST];
 
 static uint8_t *at(size_t track, size_t sector) { return disk + 4096 * track + 256 * sector; }
+
+/* A stream of 13 sectors a track of volume 254, sectors of zeros: 411 times ABh each. Its fields are 431
+   bytes, in order. */
+static uint8_t *field(size_t track, size_t sector) { return stream + 431 * (13 * track + sector); }
+
+static size_t thirteen(void) {
+    static const uint8_t ends[] = {0xDE, 0xAA, 0xEB, 0xD5, 0xAA, 0xAD};
+    unsigned track, sector, k;
+    for (track = 0; track < DOS33_TRACKS; track++) {
+        for (sector = 0; sector < DOS33_SECTORS_PER_TRACK_13; sector++) {
+            const unsigned values[] = {254, track, sector, 254 ^ track ^ sector};
+            uint8_t *f = field(track, sector);
+            f[0] = 0xD5;
+            f[1] = 0xAA;
+            f[2] = 0xB5;
+            for (k = 0; k < 4; k++) {
+                f[3 + 2 * k] = (uint8_t)(values[k] >> 1 | 0xAA);
+                f[4 + 2 * k] = (uint8_t)(values[k] | 0xAA);
+            }
+            memcpy(f + 11, ends, 6);
+            memset(f + 17, 0xAB, DOS33_NIBBLES_SIZE_13);
+            memcpy(f + 17 + DOS33_NIBBLES_SIZE_13, ends, 3);
+        }
+    }
+    return 431 * DOS33_SECTORS_PER_TRACK_13 * DOS33_TRACKS;
+}
 
 int main(void) {
     static const uint8_t name[] = {'L', 'I', 'N', 'E'};
@@ -110,6 +137,44 @@ int main(void) {
     EXPECT(dos33_archive_entry(archive, blocks, 2, f, DOS33_STEP_FIELDS) == 0 && f[0] == 0);
     archive[600] ^= 1;
     EXPECT(dos33_archive_check(disk, sizeof disk, archive, blocks) == DOS33_NOT_ITS_RETURN);
+
+    /* 13 sectors a track: sector 12 of track 17 ends in FFh. */
+    size = thirteen();
+    field(17, 12)[17] = 0xBA;
+    field(17, 12)[18] = 0xBA;
+    field(17, 12)[17 + 409] = 0xFF;
+    field(17, 12)[17 + 410] = 0xFF;
+    EXPECT(dos33_recognize_prologue(stream, size) == 0xB5);
+    memset(image, 1, sizeof image);
+    EXPECT(dos33_denibblize_13(stream, size, image, DOS33_DISK_SIZE_13, &n) == 0);
+    EXPECT(n == DOS33_DISK_SIZE_13 && n == 256 * DOS33_SECTORS_PER_TRACK_13 * DOS33_TRACKS);
+    for (k = 0; k < n; k++) EXPECT(image[k] == (k == 256 * (13 * 17 + 12) + 255 ? 0xFF : 0));
+    EXPECT(image[n] == 1);
+    EXPECT(dos33_sector_13(stream, size, 254, 17, 12, out, DOS33_SECTOR_SIZE, &n) == 0);
+    EXPECT(n == 256 && out[254] == 0 && out[255] == 0xFF);
+    EXPECT(dos33_denibblize(stream, size, out, sizeof out, &n) == DOS33_ABSENT);
+    n = 99;
+    EXPECT(dos33_denibblize_13(stream, size, image, DOS33_DISK_SIZE_13 - 1, &n) == DOS33_TRAY_SHORT);
+    EXPECT(dos33_denibblize_13(stream, size - 1, image, sizeof image, &n) == DOS33_ABSENT);
+    EXPECT(dos33_sector_13(stream, size, 254, 17, 13, out, sizeof out, &n) == DOS33_ABSENT);
+    EXPECT(dos33_sector_13(stream, size, 254, 17, 12, out, 255, &n) == DOS33_TRAY_SHORT);
+    field(17, 12)[17 + 410] = 0xAB;
+    EXPECT(dos33_denibblize_13(stream, size, image, sizeof image, &n) == DOS33_DATA_SUM);
+    EXPECT(dos33_sector_13(stream, size, 254, 0, 0, out, sizeof out, &n) == DOS33_DATA_SUM);
+    field(34, 12)[10] ^= 1;
+    EXPECT(dos33_denibblize_13(stream, size, image, sizeof image, &n) == DOS33_ADDRESS_SUM);
+    EXPECT(dos33_sector_13(stream, size, 254, 0, 0, out, sizeof out, &n) == DOS33_ADDRESS_SUM);
+    EXPECT(n == 99 && out[255] == 0xFF && image[256 * (13 * 17 + 12) + 255] == 0xFF);
+    EXPECT(dos33_vtoc(image, DOS33_DISK_SIZE_13, f, DOS33_VTOC_FIELDS) == DOS33_NO_TABLE);
+    image[256 * 13 * 17 + 52] = 35;
+    image[256 * 13 * 17 + 53] = 13;
+    image[256 * 13 * 17 + 57] = 0x0F;
+    EXPECT(dos33_vtoc(image, DOS33_DISK_SIZE_13, f, DOS33_VTOC_FIELDS) == 0);
+    EXPECT(f[8] == 13 && f[10] == 1 && f[11] == 454 && f[12] == 100);
+    EXPECT(dos33_window(image, DOS33_DISK_SIZE_13, disk, 0, 1, 17, 12, out, sizeof out, &n) == 0);
+    EXPECT(n == 256 && out[255] == 0xFF);
+    EXPECT(dos33_window(image, DOS33_DISK_SIZE_13, disk, 0, 1, 17, 13, out, sizeof out, &n) == DOS33_OFF_DISC);
+    EXPECT(dos33_nibblize(image, DOS33_DISK_SIZE_13, stream, sizeof stream, &n) == DOS33_OFF_SIZE);
 
     /* Nothing lent changes under a refusal. */
     n = 99;

@@ -8,9 +8,10 @@ use dos33::Disk;
 use crate::config::Config;
 use crate::disk_format::apple::disk::{apple_disk_parser, AppleDiskGuess, Encoding, Format};
 use crate::disk_format::apple::nibble::{build_nibble_sector, parse_nib_disk};
-use crate::disks::SIZE;
+use crate::disks::{SIZE, SIZE_13};
 use crate::random::Random;
 use crate::streams::tail;
+use crate::thirteen;
 
 mod raw {
     extern "C" {
@@ -59,6 +60,13 @@ mod raw {
             length: *mut u64,
         ) -> u8;
         pub fn dos33_denibblize(
+            s: *const u8,
+            n: usize,
+            out: *mut u8,
+            size: usize,
+            length: *mut u64,
+        ) -> u8;
+        pub fn dos33_denibblize_13(
             s: *const u8,
             n: usize,
             out: *mut u8,
@@ -120,6 +128,9 @@ struct Work<'c> {
     stream: Vec<u8>,
     // The stream with the end that image-rider wants.
     ended: Vec<u8>,
+    // A disk of 13 sectors a track, and its stream.
+    disk_13: Vec<u8>,
+    stream_13: Vec<u8>,
     archive: Vec<u8>,
     sector: Vec<u8>,
     out: Vec<u8>,
@@ -137,6 +148,8 @@ impl<'c> Work<'c> {
             files,
             stream: Vec::new(),
             ended: Vec::new(),
+            disk_13: Vec::new(),
+            stream_13: Vec::new(),
             archive: Vec::new(),
             sector: random.bytes(256),
             out: vec![0; 1 << 20],
@@ -146,6 +159,8 @@ impl<'c> Work<'c> {
         work.nibblize();
         work.stream = work.out[..work.length as usize].to_vec();
         work.ended = [&work.stream[..], &tail()].concat();
+        work.disk_13 = random.bytes(SIZE_13);
+        work.stream_13 = thirteen::stream(&work.disk_13, 254);
         work.archive_write();
         work.archive = work.out[..work.length as usize].to_vec();
         work
@@ -242,6 +257,15 @@ impl<'c> Work<'c> {
         );
     }
 
+    fn denibblize_13(&mut self) {
+        let (s, n) = (self.stream_13.as_ptr(), self.stream_13.len());
+        let (o, size) = (self.out.as_mut_ptr(), self.out.len());
+        assert_eq!(
+            unsafe { raw::dos33_denibblize_13(s, n, o, size, &mut self.length) },
+            0
+        );
+    }
+
     fn rust_load(&mut self) {
         let guess = AppleDiskGuess::new(Encoding::Plain, Format::DOS33(143_360), &self.disk);
         assert!(black_box(apple_disk_parser(black_box(&guess), self.config)).is_ok());
@@ -258,7 +282,7 @@ impl<'c> Work<'c> {
 
 type Thing = (&'static str, fn(&mut Work));
 
-const THINGS: [Thing; 14] = [
+const THINGS: [Thing; 15] = [
     ("survey", |w| w.survey()),
     ("catalog", |w| w.catalog()),
     ("file-0", |w| w.file(0)),
@@ -270,6 +294,7 @@ const THINGS: [Thing; 14] = [
     ("encode-sector", |w| w.encode_sector()),
     ("nibblize", |w| w.nibblize()),
     ("denibblize", |w| w.denibblize()),
+    ("denibblize-13", |w| w.denibblize_13()),
     ("apple_disk_parser", |w| w.rust_load()),
     ("parse_nib_disk", |w| w.rust_stream()),
     ("build_nibble_sector", |w| w.rust_sector()),
@@ -375,6 +400,16 @@ fn nibbles(work: &mut Work) {
         "a full stream to a flat disk",
         |w| w.denibblize(),
         |w| w.rust_stream(),
+    );
+    // Nothing stands beside it but our own reading of 16 sectors a track.
+    work.denibblize_13();
+    assert_eq!(work.out[..SIZE_13], work.disk_13[..]);
+    let (of_13, of_16) = least(work, 10, |w| w.denibblize_13(), |w| w.denibblize());
+    println!(
+        "{:36} {of_13:12.0} ns   a sector {:5.0} ns, of 16 sectors a track {:5.0} ns",
+        "a full stream of 13 sectors a track",
+        of_13 / 455.0,
+        of_16 / 560.0
     );
     let (ours, theirs) = least(
         work,

@@ -5,6 +5,9 @@ pub type Place = (u8, u8);
 
 pub const SIZE: usize = 143_360;
 
+// A flat disk of 13 sectors a track. image-rider has none: such a length is never compared.
+pub const SIZE_13: usize = 116_480;
+
 pub fn start(place: Place) -> usize {
     4096 * place.0 as usize + 256 * place.1 as usize
 }
@@ -473,7 +476,8 @@ impl Builder<'_> {
                 } else {
                     n
                 };
-                self.size = n;
+                // To ours this length is a disk of 13 sectors a track, not a wrong size.
+                self.size = if n == SIZE_13 { n - 1 } else { n };
             }
             17 => {
                 // A list that goes on in another chain, in a page or in data.

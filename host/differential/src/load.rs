@@ -27,6 +27,7 @@ pub fn compare(
     ours: &mut Ours,
     report: &mut Report,
 ) {
+    assert_ne!(disk.len(), disks::SIZE_13, "a disk of 13 sectors a track");
     let differ = |report: &Report, text: String| -> ! { report.difference("load", disk, text) };
     report.compared("apple_disk_parser");
 

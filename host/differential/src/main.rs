@@ -15,6 +15,7 @@ mod records;
 mod report;
 mod shims;
 mod streams;
+mod thirteen;
 mod worker;
 
 include!(concat!(env!("OUT_DIR"), "/modules.rs"));
@@ -59,6 +60,10 @@ fn main() {
                 eprintln!("{file}: {e}");
                 std::process::exit(2)
             });
+            if what == "--load" && bytes.len() == disks::SIZE_13 {
+                eprintln!("{file}: a disk of 13 sectors a track, which image-rider does not have");
+                std::process::exit(2);
+            }
             report.case = file.clone();
             let random = &mut random::Random::new(1);
             let mut ours = ours::Ours::new(1);

@@ -1,10 +1,22 @@
-// A small disk, built byte by byte.
+// A small disk, built byte by byte, of 16 or of 13 sectors a track.
 #![allow(dead_code)]
 
+pub mod five_three;
+
 pub const SIZE: usize = 143_360;
+pub const SIZE_13: usize = 116_480;
 
 pub fn at(track: usize, sector: usize) -> usize {
-    4096 * track + 256 * sector
+    at_of(16, track, sector)
+}
+
+pub fn at_13(track: usize, sector: usize) -> usize {
+    at_of(13, track, sector)
+}
+
+/// With so many sectors a track.
+pub fn at_of(per: usize, track: usize, sector: usize) -> usize {
+    256 * (per * track + sector)
 }
 
 /// VTOC at 17/0 (volume 254, 15 sectors free), catalog pages at 17/15 and 17/14.
@@ -12,49 +24,62 @@ pub fn at(track: usize, sector: usize) -> usize {
 /// 1: a deleted entry, which is not live.
 /// 2: Text "NOTES", list 19/15, sector 19/1. On the second page: Binary "LINE 7", 3 bytes, list 20/15, 20/1.
 pub fn disk() -> Vec<u8> {
-    let mut d = vec![0u8; SIZE];
+    disk_of(16)
+}
+
+/// The same contents with 13 sectors a track: 12 and 11 in the place of 15 and 14, and 13 sectors free.
+pub fn disk_13() -> Vec<u8> {
+    disk_of(13)
+}
+
+/// With so many sectors a track, which is also what the VTOC says.
+pub fn disk_of(per: usize) -> Vec<u8> {
+    let at = |track, sector| at_of(per, track, sector);
+    let (last, other) = (per - 1, per - 2);
+    let mut d = vec![0u8; 256 * 35 * per];
     let v = at(17, 0);
     d[v + 1] = 17;
-    d[v + 2] = 15;
+    d[v + 2] = last as u8;
     d[v + 3] = 3;
     d[v + 6] = 254;
     d[v + 39] = 122;
     d[v + 48] = 18;
     d[v + 49] = 255;
     d[v + 52] = 35;
-    d[v + 53] = 16;
+    d[v + 53] = per as u8;
     d[v + 55] = 1;
-    d[v + 56] = 0xFF; // track 0: 15 free
+    d[v + 56] = 0xFF; // track 0: 15 free, or the 13 that are counted
     d[v + 57] = 0xFE;
     d[v + 58] = 0xFF; // not counted
-    let page = at(17, 15);
+    let page = at(17, last);
     d[page + 1] = 17;
-    d[page + 2] = 14;
-    entry(&mut d, 17, 15, 0, (18, 15), 0x84, "LINE 7", 5);
-    entry(&mut d, 17, 15, 1, (255, 3), 0x04, "GONE", 9);
-    entry(&mut d, 17, 15, 2, (19, 15), 0x00, "NOTES", 2);
-    entry(&mut d, 17, 14, 6, (20, 15), 0x04, "LINE 7", 0x102);
+    d[page + 2] = other as u8;
+    let first = |track| (track, last as u8);
+    record(&mut d, page, 0, first(18), 0x84, "LINE 7", 5);
+    record(&mut d, page, 1, (255, 3), 0x04, "GONE", 9);
+    record(&mut d, page, 2, first(19), 0x00, "NOTES", 2);
+    record(&mut d, at(17, other), 6, first(20), 0x04, "LINE 7", 0x102);
     // The first file: two lists.
-    let list = at(18, 15);
+    let list = at(18, last);
     d[list + 1] = 18;
-    d[list + 2] = 14;
+    d[list + 2] = other as u8;
     d[list + 12..list + 16].copy_from_slice(&[18, 1, 18, 2]);
-    let list = at(18, 14);
+    let list = at(18, other);
     d[list + 12..list + 14].copy_from_slice(&[18, 3]);
     let data = binary();
     let first = at(18, 1);
     d[first..first + 4].copy_from_slice(&[0x00, 0x20, 0x58, 0x02]);
     d[first + 4..first + 604].copy_from_slice(&data);
     // The text.
-    let list = at(19, 15);
+    let list = at(19, last);
     d[list + 12..list + 14].copy_from_slice(&[19, 1]);
     let text = at(19, 1);
     d[text..text + 2].copy_from_slice(&[0xC8, 0xC9]);
     // The last file.
-    let list = at(20, 15);
+    let list = at(20, last);
     d[list + 12..list + 14].copy_from_slice(&[20, 1]);
-    let last = at(20, 1);
-    d[last..last + 7].copy_from_slice(&[0, 8, 3, 0, 11, 22, 33]);
+    let data = at(20, 1);
+    d[data..data + 7].copy_from_slice(&[0, 8, 3, 0, 11, 22, 33]);
     d
 }
 
@@ -63,7 +88,7 @@ pub fn binary() -> Vec<u8> {
     (0..600u32).map(|k| (k * k / 7) as u8).collect()
 }
 
-/// Writes entry number `slot` of a page.
+/// Writes entry number `slot` of a page, on a disk of 16 sectors a track.
 #[allow(clippy::too_many_arguments)]
 pub fn entry(
     d: &mut [u8],
@@ -75,7 +100,20 @@ pub fn entry(
     name: &str,
     count: u16,
 ) {
-    let e = at(track, sector) + 11 + 35 * slot;
+    record(d, at(track, sector), slot, list, kind, name, count);
+}
+
+/// Writes entry number `slot` of the page that begins at byte `page`.
+pub fn record(
+    d: &mut [u8],
+    page: usize,
+    slot: usize,
+    list: (u8, u8),
+    kind: u8,
+    name: &str,
+    count: u16,
+) {
+    let e = page + 11 + 35 * slot;
     d[e] = list.0;
     d[e + 1] = list.1;
     d[e + 2] = kind;
