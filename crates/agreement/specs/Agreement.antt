@@ -1,6 +1,6 @@
--- Demand 3, as one claim about the calls' arguments and answers, for all pairings of flat and nibbles and of the two editions: document 01, "Return", its last lines, and Req 12.
--- `Denibblized`, `Wrote` and `Checked` are the promises of `stream::denibblize` (at Sixteen) and `stream::denibblize_13` (at Thirteen), `writer::write_archive` and `writer::check_archive`, word for word: the
--- claim speaks of what these were handed, of what they answered and of what they left in the space lent to them, and of nothing else.
+-- Demand 3, as one claim about the calls' arguments and answers, for all pairings of flat and nibbles and of the two editions: document 01, "Return", its last lines, and document 02, Req 12.
+-- `Denibblized`, `Wrote` and `Checked` are the promises of `stream::denibblize` (at Sixteen) and `stream::denibblize_13` (at Thirteen), of `writer::write_archive` and of
+-- `writer::check_archive`, word for word: the claim speaks of what these were handed, of what they answered and of what they left in the space lent to them, and of nothing else.
 use mathlib.Core.Path.{_≡_}
 use mathlib.Core.Logic.{_↔_}
 use mathlib.Core.List.{List}

@@ -1,4 +1,4 @@
--- The 5-and-3 coding of a sector, as it is read: Req 12. A sector's 256 bytes are 410 values of five bits, t153 down to t0 and then b0 to b255; each is written as a
+-- The 5-and-3 coding of a sector, as it is read: document 02, Req 12. A sector's 256 bytes are 410 values of five bits, t153 down to t0 and then b0 to b255; each is written as a
 -- nibble of its XOR with the value before it, and the last value again is the sum.
 use mathlib.Core.Bool.{Bool, cond, not, _&&_}
 use mathlib.Core.List.{List, [], _∷_}

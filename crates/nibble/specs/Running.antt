@@ -1,4 +1,4 @@
--- The running XOR of what is read of nibbles, over any rule of reading: document 01, "Nibbles", and Req 12 ("under the running XOR").
+-- The running XOR of what is read of nibbles, over any rule of reading: document 01, "Nibbles", and document 02, Req 12 ("under the running XOR").
 use mathlib.Core.List.{List}
 use Prim.Native.Nat.{ℕ, zero, suc}
 use lib.Bits.{bitXor}

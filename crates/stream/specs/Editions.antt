@@ -1,4 +1,4 @@
--- The two editions of a nibble stream: DOS 3.3, 16 sectors a track in 6-and-2, and DOS 3.2, 13 in 5-and-3. Document 01, "Nibbles", "Fields" and "Unroll", and Req 12.
+-- The two editions of a nibble stream: DOS 3.3, 16 sectors a track in 6-and-2, and DOS 3.2, 13 in 5-and-3. Document 01, "Nibbles", "Fields" and "Unroll", and document 02, Req 12.
 -- All that differs between the two stands here; the fields of a stream, a sector by its key and denibblize are defined once over the edition.
 use mathlib.Core.Bool.{cond}
 use mathlib.Core.List.{List}
