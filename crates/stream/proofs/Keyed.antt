@@ -219,27 +219,28 @@ pub ruleset looking = (looking-start, pair-fits, looking-turn, looking-bad, look
 
 -- ---- put_data: the bytes of a data field, put to the front of the part of o from place `at` on
 module _ (ed : Edition) (s o y : List ℕ) (a n at : ℕ) (k : n ≡ nibblesOf ed) (room : at + 256 ≤ length o) where
-  part-data : (x : List ℕ) → length x ≡ 256 → y ≡ placed 0 x (midOf at (length o - at) o) → putMid at (length o - at) o y ≡ put at x o
-  part-data x l e =
+  -- where f is the edition's decoder
+  put-by : (f : List ℕ → List ℕ) → ((ns : List ℕ) → f ns ≡ dataOf ed ns) → y ≡ placed 0 (f (take (a + n - a) (drop a s))) (midOf at (length o - at) o)
+      → putMid at (length o - at) o y ≡ put at (dataOf ed (take (nibblesOf ed) (drop a s))) o
+  put-by f same q =
+      let x : List ℕ = dataOf ed (take (nibblesOf ed) (drop a s)) in
       let m : ℕ = length o - at in
+      let l : a + n - a ≡ nibblesOf ed = omega arith in
+      let u : f (take (a + n - a) (drop a s)) ≡ x = rw l (same (take (nibblesOf ed) (drop a s))) in
+      let lx : length x ≡ 256 = length-data ed (take (nibblesOf ed) (drop a s)) in
       let lm : length (midOf at m o) ≡ m = length-take-le m (drop at o) (rw length-drop (le-refl m)) in
+      let e : y ≡ placed 0 x (midOf at m o) = q ∙ ap (λ (w : List ℕ). placed 0 w (midOf at m o)) u in
       put-part {i = at} at m (placed-put e (omega arith)) (omega arith) (omega arith) (omega arith) .is
 
   pub put-16 : ed ≡ Sixteen → y ≡ placed 0 (decode (take (a + n - a) (drop a s))) (midOf at (length o - at) o)
       → putMid at (length o - at) o y ≡ put at (dataOf ed (take (nibblesOf ed) (drop a s))) o
   unfolding dataOf
-  put-16 e q =
-      let l : a + n - a ≡ nibblesOf ed = omega arith in
-      let u : decode (take (a + n - a) (drop a s)) ≡ dataOf ed (take (nibblesOf ed) (drop a s)) = rw (l, e) refl in
-      part-data _ (length-data ed (take (nibblesOf ed) (drop a s))) (q ∙ ap (λ (x : List ℕ). placed 0 x (midOf at (length o - at) o)) u)
+  put-16 e q = put-by decode (λ ns. rw e refl) q
 
   pub put-13 : ed ≡ Thirteen → y ≡ placed 0 (decode53 (take (a + n - a) (drop a s))) (midOf at (length o - at) o)
       → putMid at (length o - at) o y ≡ put at (dataOf ed (take (nibblesOf ed) (drop a s))) o
   unfolding dataOf
-  put-13 e q =
-      let l : a + n - a ≡ nibblesOf ed = omega arith in
-      let u : decode53 (take (a + n - a) (drop a s)) ≡ dataOf ed (take (nibblesOf ed) (drop a s)) = rw (l, e) refl in
-      part-data _ (length-data ed (take (nibblesOf ed) (drop a s))) (q ∙ ap (λ (x : List ℕ). placed 0 x (midOf at (length o - at) o)) u)
+  put-13 e q = put-by decode53 (λ ns. rw e refl) q
 
 pub ruleset datas = (put-16, put-13, part-fits, needs)
 
