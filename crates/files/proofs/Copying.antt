@@ -12,7 +12,7 @@ use Rattle.lists.proofs.Put.{Put, put-none, put-is, put-more, placed-put}
 use Rattle.disk.specs.declared.Place.{Place}
 use Rattle.disk.specs.Disk.{start, bytesOf}
 use Rattle.files.specs.declared.Spot.{Spot}
-use Rattle.files.specs.Contents.{pairAt, pairsOf}
+use Rattle.files.specs.Contents.{maxPairs, pairAt, pairsOf}
 use Rattle.files.specs.Copies.{cutOf, Copied, Roomy, listOf}
 use Rattle.files.proofs.Runs.{behind, stop, next, none-behind}
 
@@ -104,7 +104,7 @@ pub ruleset sectors = (less-none, sector-within, sector-copied, needs)
 module _ (n : ℕ) (d : List ℕ) (g : Place → List ℕ) (p : Place) (size : ℕ) (s₀ : Spot) (o₀ : List ℕ) where
   -- what g gives of i pairs is copied
   pub record Pairs (i : ℕ) (s : Spot) (o : List ℕ) : Type 0 where
-    pub count : i ≤ 121
+    pub count : i ≤ maxPairs
     pub done : List Place
     pub split : pairsOf n d p ≡ done ++ behind n d p i
     pub room : Roomy size s₀ o₀
@@ -125,13 +125,13 @@ module _ (n : ℕ) (d : List ℕ) (g : Place → List ℕ) (p : Place) (size : �
         let q : pairsOf n d p ≡ c .done = c .split ∙ ap (λ (y : List Place). c .done ++ y) e ∙ append-nil (c .done) in
         rw q (c .copied)
 
-    pub pairs-stop : i < 121 → (q : Place) → q ≡ pairAt n d p i → q .track .0 ≡ 0 → Copied size (listOf n d g p) s₀ o₀ o s
+    pub pairs-stop : i < maxPairs → (q : Place) → q ≡ pairAt n d p i → q .track .0 ≡ 0 → Copied size (listOf n d g p) s₀ o₀ o s
     pairs-stop h q e z = ends (stop n d p i h q e z)
 
-    pub pairs-full : 121 ≤ i → Copied size (listOf n d g p) s₀ o₀ o s
+    pub pairs-full : maxPairs ≤ i → Copied size (listOf n d g p) s₀ o₀ o s
     pairs-full h = ends (none-behind n d p i h)
 
-    pub pairs-more : i < 121 → (q : Place) → q ≡ pairAt n d p i → (q .track .0 ≡ 0 → ⊥) → (r : Spot) (o′ : List ℕ) → Copied size (g q) s o o′ r
+    pub pairs-more : i < maxPairs → (q : Place) → q ≡ pairAt n d p i → (q .track .0 ≡ 0 → ⊥) → (r : Spot) (o′ : List ℕ) → Copied size (g q) s o o′ r
         → Pairs (i + 1) r o′
     pairs-more h q e z r o′ u =
         let k : behind n d p i ≡ q ∷ behind n d p (i + 1) = next n d p i h q e z in

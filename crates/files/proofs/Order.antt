@@ -41,15 +41,15 @@ module _ (n : ℕ) (d : List ℕ) where
   unfolding listWalk
   lists-short e ls h = walk-short n _ _ _ _ ls h
 
-  -- at most 121 pairs a list
-  pub pairs-few : (p : Place) → length (pairsOf n d p) ≤ 121
+  -- a list has at most maxPairs
+  pub pairs-few : (p : Place) → length (pairsOf n d p) ≤ maxPairs
   unfolding pairsOf
   pairs-few p = let l = takeWhile-short isPair (onward (pairAt n d p) maxPairs 0) in omega (arith, length-onward (pairAt n d p) maxPairs)
 
   -- .. in all lists of an entry
-  pub pairs-short : (e : Entry) (ls : List Place) → lists n d e ≡ given ls → length (flatMap (pairsOf n d) ls) ≤ 121 * sectors n
+  pub pairs-short : (e : Entry) (ls : List Place) → lists n d e ≡ given ls → length (flatMap (pairsOf n d) ls) ≤ maxPairs * sectors n
   pairs-short e ls h =
-      let l = length-flatMap (pairsOf n d) 121 pairs-few ls in
+      let l = length-flatMap (pairsOf n d) maxPairs pairs-few ls in
       let m = lists-short e ls h in
       omega arith
 

@@ -20,13 +20,13 @@ use Rattle.disk.specs.declared.Place.{Place}
 use Rattle.disk.specs.Disk.{sectors, perOf, start, onDisk, sized}
 use Rattle.disk.proofs.Places.{number-small}
 use Rattle.files.specs.declared.PairRun.{PairRun}
-use Rattle.files.specs.Contents.{placeBytes, pairAt, pairsOf, pairsAt, pairBytes}
+use Rattle.files.specs.Contents.{maxPairs, placeBytes, pairAt, pairsOf, pairsAt, pairBytes}
 use Rattle.files.specs.Threads.{runOf}
 use Rattle.files.proofs.Runs.{behind, stop, next, none-behind}
 
 module _ (n : ℕ) (d : List ℕ) (p : Place) (fits : start n p + 256 ≤ length d) where
   -- the pairs from i on
-  row : (f i : ℕ) → i + f ≡ 121 → flatMap placeBytes (behind n d p i) ≡ take (2 * length (behind n d p i)) (drop (start n p + (12 + 2 * i)) d)
+  row : (f i : ℕ) → i + f ≡ maxPairs → flatMap placeBytes (behind n d p i) ≡ take (2 * length (behind n d p i)) (drop (start n p + (12 + 2 * i)) d)
   unfolding flatMap
   row zero i h = rw (none-behind n d p i (omega arith)) refl
   row (suc f) i h =
@@ -45,7 +45,7 @@ module _ (n : ℕ) (d : List ℕ) (p : Place) (fits : start n p + 256 ≤ length
 
   pub pairs-row : flatMap placeBytes (pairsOf n d p) ≡ take (2 * length (pairsOf n d p)) (drop (start n p + 12) d)
   unfolding pairsOf
-  pairs-row = row 121 0 refl
+  pairs-row = row maxPairs 0 refl
 
 -- two bytes a pair
 pub length-two : (ps : List Place) → length (flatMap placeBytes ps) ≡ 2 * length ps

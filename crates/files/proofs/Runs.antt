@@ -35,7 +35,7 @@ module _ (n : ℕ) (d : List ℕ) (p : Place) where
 
   -- i pairs were read, and `good` says whether all of them are on the disk
   pub record Pairing (i : ℕ) (good : Bool) : Type 0 where
-    pub count : i ≤ 121
+    pub count : i ≤ maxPairs
     pub long : length (pairsOf n d p) ≡ i + length (behind i)
     pub on : all (onDisk n) (pairsOf n d p) ≡ (good && all (onDisk n) (behind i))
 
@@ -44,18 +44,18 @@ module _ (n : ℕ) (d : List ℕ) (p : Place) where
   pairing-none = record { count = omega arith; long = omega arith; on = refl }
 
   -- behind all of them
-  pub none-behind : (i : ℕ) → 121 ≤ i → behind i ≡ []
+  pub none-behind : (i : ℕ) → maxPairs ≤ i → behind i ≡ []
   unfolding takeWhile
   none-behind i h = rw (onward-end (pairAt n d p) maxPairs i h) refl
 
   -- behind the last pair
-  pub stop : (i : ℕ) → i < 121 → (q : Place) → q ≡ pairAt n d p i → q .track .0 ≡ 0 → behind i ≡ []
+  pub stop : (i : ℕ) → i < maxPairs → (q : Place) → q ≡ pairAt n d p i → q .track .0 ≡ 0 → behind i ≡ []
   stop i h q e z =
       let t : isPair (pairAt n d p i) ≡ false = sym (ap isPair e) ∙ rw (eq-eqb (q .track .0) 0 z) refl in
       ap (takeWhile isPair) (onward-next (pairAt n d p) maxPairs i h) ∙ takeWhile-stop isPair (pairAt n d p i) _ t
 
   -- one pair more
-  pub next : (i : ℕ) → i < 121 → (q : Place) → q ≡ pairAt n d p i → (q .track .0 ≡ 0 → ⊥) → behind i ≡ q ∷ behind (i + 1)
+  pub next : (i : ℕ) → i < maxPairs → (q : Place) → q ≡ pairAt n d p i → (q .track .0 ≡ 0 → ⊥) → behind i ≡ q ∷ behind (i + 1)
   next i h q e z =
       let t : isPair (pairAt n d p i) ≡ true = sym (ap isPair e) ∙ rw (ne-eqb (q .track .0) 0 z) refl in
       ap (takeWhile isPair) (onward-next (pairAt n d p) maxPairs i h) ∙ takeWhile-next isPair (pairAt n d p i) _ t
@@ -69,16 +69,16 @@ module _ (n : ℕ) (d : List ℕ) (p : Place) where
         let b : good ≡ all (onDisk n) (pairsOf n d p) = sym (c .on ∙ rw e (and-true good)) in
         λ j. record { count = a j; good = b j }
 
-    pub pairing-stop : i < 121 → (q : Place) → q ≡ pairAt n d p i → q .track .0 ≡ 0 → record { count = i; good = good } ≡ runOf n d p
+    pub pairing-stop : i < maxPairs → (q : Place) → q ≡ pairAt n d p i → q .track .0 ≡ 0 → record { count = i; good = good } ≡ runOf n d p
     pairing-stop h q e z = ends (stop i h q e z)
 
-    pub pairing-full : 121 ≤ i → record { count = i; good = good } ≡ runOf n d p
+    pub pairing-full : maxPairs ≤ i → record { count = i; good = good } ≡ runOf n d p
     pairing-full h = ends (none-behind i h)
 
-    pub pairing-few : i ≤ 121
+    pub pairing-few : i ≤ maxPairs
     pairing-few = c .count
 
-    pub pairing-more : i < 121 → (q : Place) → q ≡ pairAt n d p i → (q .track .0 ≡ 0 → ⊥) → (b : Bool) → b ≡ onDisk n q → Pairing (i + 1) (good && b)
+    pub pairing-more : i < maxPairs → (q : Place) → q ≡ pairAt n d p i → (q .track .0 ≡ 0 → ⊥) → (b : Bool) → b ≡ onDisk n q → Pairing (i + 1) (good && b)
     unfolding all
     pairing-more h q e z b w =
         let k = next i h q e z in
@@ -209,7 +209,7 @@ module _ (n : ℕ) (d : List ℕ) where
     pub record Following (most k m : ℕ) (good : Bool) (head p : Place) : Type 0 where
       pub budget : most ≡ 35 * n + 1
       pub count : k ≤ most
-      pub few : m ≤ 121 * k
+      pub few : m ≤ maxPairs * k
       pub is : rest step n (soundList n d) (nextList n d) (35 * n + 1) k (run k m good head) p ≡ walkRun first
 
     pub follow-none : (most : ℕ) (head : Place) → most ≡ 35 * n + 1 → head ≡ place 0 0 → Following most 0 0 true head first
@@ -250,7 +250,7 @@ module _ (n : ℕ) (d : List ℕ) where
             (sym (rest-bad step n (soundList n d) (nextList n d) (35 * n + 1) k (run k m good head) p inside CutLink (sym o ∙ y) (rw (← w, z) refl)) ∙ c .is) q
 
     module _ (most k m : ℕ) (good : Bool) (head p : Place) (c : Following most k m good head p) (h : k < most) (on : Bool) (o : on ≡ onDisk n p) (y : on ≡ true)
-        (b : Bool) (w : b ≡ wholeLink n d p) (z : b ≡ true) (r : PairRun) (u : r ≡ runOf n d p) (few : r .count ≤ 121)
+        (b : Bool) (w : b ≡ wholeLink n d p) (z : b ≡ true) (r : PairRun) (u : r ≡ runOf n d p) (few : r .count ≤ maxPairs)
         (a : Place) (v : a ≡ cond (eqb m 0) (headOf (pairsOf n d p)) head) (l : Bool) (e : l ≡ eqb (byteOf n d p 1) 0) where
       sound : soundList n d p ≡ given tt
       unfolding soundList

@@ -42,9 +42,9 @@ pub record Proper (f : File) : Type 0 where
   pub bytes : Bytes (f .bytes)
   pub binaryOnly : (f .kind ≡ 4 → ⊥) → f .bytes ≡ []
 
--- the pairs that a list can have: as the Rust has it; BAD has 122
+-- the pairs that a list can have: BAD's 122 (Req 05; the Rust reads 121)
 abbrev pub maxPairs : ℕ
-maxPairs = 121
+maxPairs = 122
 
 -- a place in two bytes: track, sector
 abbrev pub placeBytes : Place → List ℕ

@@ -7,7 +7,7 @@ ghost use Rattle.outcome.specs.Outcome.{Hands, leftBy};
 ghost use Rattle.catalog.specs.Listing.{Ready};
 ghost use Rattle.catalog.specs.Catalog.{shown, entryFrom};
 ghost use Rattle.disk.specs.Disk.{perOf, place, byteOf, bytesOf};
-ghost use Rattle.files.specs.Contents.{pairAt, pairsOf, wholeLink, listWalk, pairBytes};
+ghost use Rattle.files.specs.Contents.{maxPairs, pairAt, pairsOf, wholeLink, listWalk, pairBytes};
 ghost use lib.ListN.{take};
 ghost use Rattle.lists.specs.Same.{same};
 ghost use Rattle.files.specs.Totals.{choice, noChoice, noneYet, noTotals, totaled, walkTotals, totals, withLink, Within, Bounded, Joined, Entered, Added, Linked, Ranged, Paged};
@@ -49,6 +49,12 @@ use outcome::RING;
 use outcome::TRAY_SHORT;
 use outcome::accepted;
 use outcome::refused;
+
+// The pairs that a list can have.
+pub const MAX_PAIRS: u8 = 122;
+
+// Their bytes: from byte 12 of the list's sector to its last.
+pub const PAIR_BYTES: usize = 2 * MAX_PAIRS as usize;
 
 // The pairs of one list: how many, and whether all are on the disk.
 pub struct PairRun {
@@ -120,14 +126,14 @@ pub fn parse_track_sector_pair(disk: &[u8], per: u8, p: Place, i: u8) -> Place
     }
 }
 
-// The pairs of a list: up to the first zero track, and at most 121.
+// The pairs of a list: up to the first zero track, and at most MAX_PAIRS.
 pub fn parse_track_sector_list(disk: &[u8], per: u8, p: Place) -> PairRun
     ensures is { λ r. ⌜ r ≡ runOf per (now (disk .entry)) p ⌝ }
-    ensures few { λ r. ⌜ r .count ≤ 121 ⌝ }
+    ensures few { λ r. ⌜ r .count ≤ maxPairs ⌝ }
 {
     let mut i: u8 = 0;
     let mut good = true;
-    while i < 121 {
+    while i < MAX_PAIRS {
         let q = parse_track_sector_pair(disk, per, p, i);
         if q.track.0 == 0 {
             return PairRun {
@@ -570,7 +576,7 @@ fn copy_pairs(disk: &[u8], per: u8, p: Place, out: &mut [u8], size: usize, first
 {
     let mut s = first;
     let mut i: u8 = 0;
-    while i < 121 {
+    while i < MAX_PAIRS {
         let q = parse_track_sector_pair(disk, per, p, i);
         if q.track.0 == 0 {
             return s;

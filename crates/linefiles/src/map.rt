@@ -16,6 +16,7 @@ use disk::Track;
 use disk::byte_of;
 use disk::link_of;
 use disk::sectors_of;
+use files::MAX_PAIRS;
 use files::last_list;
 use files::parse_track_sector_pair;
 use libc::STDOUT_FILENO;
@@ -51,7 +52,7 @@ fn give(uses: &mut [u8], per: u8, p: Place, role: u8) {
 }
 
 fn give_pairs(disk: &[u8], per: u8, p: Place, uses: &mut [u8]) {
-    for i in 0..121u8 {
+    for i in 0..MAX_PAIRS {
         let q = parse_track_sector_pair(disk, per, p, i);
         if q.track.0 == 0 {
             return;

@@ -24,6 +24,8 @@ use disk::link_of;
 use disk::on_disk;
 use disk::sector_start;
 use disk::sectors_of;
+use files::MAX_PAIRS;
+use files::PAIR_BYTES;
 use files::last_list;
 use files::parse_track_sector_pair;
 use libc::STDERR_FILENO;
@@ -213,7 +215,7 @@ pub(crate) fn follow_pages(disk: &[u8], why: u8) -> u8 {
 
 // How many pairs the list has.
 fn pairs_in(disk: &[u8], p: Place) -> u64 {
-    let mut space = [0u8; 242];
+    let mut space = [0u8; PAIR_BYTES];
     let h = files::track_sector_pairs(disk, p.track, p.sector, &mut space);
     (h.length / 2) as u64
 }
@@ -341,24 +343,24 @@ fn follow_lists(disk: &[u8], per: u8, why: u8, entries: u64, e: FileEntry, seen:
     RING
 }
 
-// The first pair of a list that is not on the disk; 121 where all are.
+// The first pair of a list that is not on the disk; MAX_PAIRS where all are.
 fn bad_pair(disk: &[u8], per: u8, p: Place) -> u8 {
-    for i in 0..121u8 {
+    for i in 0..MAX_PAIRS {
         let q = parse_track_sector_pair(disk, per, p, i);
         if q.track.0 == 0 {
-            return 121;
+            return MAX_PAIRS;
         }
         if !on_disk(per, q) {
             return i;
         }
     }
-    121
+    MAX_PAIRS
 }
 
 // Tells of the pair where it is not on the disk: 3, or 0.
 fn at_pairs(disk: &[u8], per: u8, why: u8, p: Place, entries: u64, e: FileEntry) -> u8 {
     let i = bad_pair(disk, per, p);
-    if i == 121 {
+    if i == MAX_PAIRS {
         return 0;
     }
     if why == OFF_DISC {

@@ -19,7 +19,7 @@ use Rattle.outcome.proofs.Outcome.{then-gives}
 use Rattle.disk.specs.declared.Place.{Place}
 use Rattle.disk.specs.Disk.{perOf, sectors, onDisk, sized}
 use Rattle.files.specs.declared.PairRun.{PairRun}
-use Rattle.files.specs.Contents.{isPair, pairAt, pairsOf, pairsAt}
+use Rattle.files.specs.Contents.{maxPairs, isPair, pairAt, pairsOf, pairsAt}
 use Rattle.files.specs.Threads.{runOf}
 use Rattle.pairs.specs.declared.TrackSectorPair.{TrackSectorPair}
 use Rattle.pairs.specs.Run.{asPair, noPair, pairIn, pairRun, fitting}
@@ -27,11 +27,11 @@ use Rattle.pairs.proofs.Storing.{handsOver}
 
 module _ (per : ℕ) (d : List ℕ) (p : Place) where
   -- ---- a pair
-  pub pair-past : (i : ℕ) → 121 ≤ i → noPair ≡ pairIn per d p i
-  pair-past i h = rw (le-ltb i 121 h) refl
+  pub pair-past : (i : ℕ) → maxPairs ≤ i → noPair ≡ pairIn per d p i
+  pair-past i h = rw (le-ltb i maxPairs h) refl
 
-  pub pair-here : (i : ℕ) (q : Place) → i < 121 → q ≡ pairAt per d p i → asPair q ≡ pairIn per d p i
-  pair-here i q h e = rw (lt-ltb i 121 h, e) refl
+  pub pair-here : (i : ℕ) (q : Place) → i < maxPairs → q ≡ pairAt per d p i → asPair q ≡ pairIn per d p i
+  pair-here i q h e = rw (lt-ltb i maxPairs h, e) refl
 
   -- ---- the answer
   module _ (room : ℕ) where
@@ -65,10 +65,10 @@ module _ (per : ℕ) (d : List ℕ) (p : Place) (i : ℕ) where
   unfolding pairsOf
   pair-of ps e h =
       let z : Place = pairAt per d p 0 in
-      let l : i < length (takeWhile isPair (map (pairAt per d p) (below 121))) = rw (e, length-map) at h in
-      let m : i < 121 = omega (arith, takeWhile-short isPair (map (pairAt per d p) (below 121)), length-onward (pairAt per d p) 121) in
+      let l : i < length (takeWhile isPair (map (pairAt per d p) (below maxPairs))) = rw (e, length-map) at h in
+      let m : i < maxPairs = omega (arith, takeWhile-short isPair (map (pairAt per d p) (below maxPairs)), length-onward (pairAt per d p) maxPairs) in
       let q : getD ps i z ≡ pairAt per d p i =
-      rw e (takeWhile-getD isPair z (map (pairAt per d p) (below 121)) i l ∙ List·getD-map (pairAt per d p) (below 121) i 0 ∙ ap (pairAt per d p) (getD-tab (λ k. k) 121 i 0 m)) in
+      rw e (takeWhile-getD isPair z (map (pairAt per d p) (below maxPairs)) i l ∙ List·getD-map (pairAt per d p) (below maxPairs) i 0 ∙ ap (pairAt per d p) (getD-tab (λ k. k) maxPairs i 0 m)) in
       sym (pair-here per d p i (pairAt per d p i) m refl) ∙ ap asPair (sym q) ∙ sym (List·getD-map asPair ps i z)
 
   given-pairs : (ps : List Place) → pairsAt per d p ≡ given ps → ps ≡ pairsOf per d p

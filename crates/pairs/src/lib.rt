@@ -10,6 +10,7 @@ use disk::Sector;
 use disk::Track;
 use disk::on_disk;
 use disk::sectors_of;
+use files::MAX_PAIRS;
 use files::parse_track_sector_list;
 use files::parse_track_sector_pair;
 use outcome::Handed;
@@ -30,7 +31,7 @@ pub struct TrackSectorPair {
 fn pair_of(disk: &[u8], per: u8, track: u8, sector: u8, i: usize) -> TrackSectorPair
     ensures { λ r. ⌜ r ≡ pairIn per (now (disk .entry)) (place track sector) i ⌝ }
 {
-    if 121 <= i {
+    if (MAX_PAIRS as usize) <= i {
         return TrackSectorPair {
             track_number: 0,
             sector_number: 0,

@@ -2,6 +2,7 @@
 use crate::size_of;
 use disk::Sector;
 use disk::Track;
+use files::PAIR_BYTES;
 use libc::STDOUT_FILENO;
 use outcome::Handed;
 use outcome::Word;
@@ -188,7 +189,7 @@ pub(crate) fn window(disk: &[u8], track: u8, sector: u8) {
 }
 
 pub(crate) fn pairs(disk: &[u8], track: u8, sector: u8) {
-    let mut out = [0u8; 242];
+    let mut out = [0u8; PAIR_BYTES];
     let h = files::track_sector_pairs(disk, Track(track), Sector(sector), &mut out);
     handed_line(b"pairs: refusal", h);
     bytes_line(h, &out);

@@ -28,6 +28,7 @@ use disk::chain_budget;
 use disk::link_of;
 use disk::sector_start;
 use disk::sectors_of;
+use files::MAX_PAIRS;
 use files::last_list;
 use files::parse_track_sector_pair;
 use files::survey;
@@ -90,7 +91,7 @@ fn collect_pairs(disk: &[u8], per: u8, p: Place, places: &mut [u32], first: usiz
 {
     let mut at = first;
     let mut i: u8 = 0;
-    while i < 121 {
+    while i < MAX_PAIRS {
         let q = parse_track_sector_pair(disk, per, p, i);
         if q.track.0 == 0 {
             return at;

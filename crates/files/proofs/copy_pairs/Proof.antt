@@ -1,5 +1,6 @@
 use Rattle.files.proofs.Copying.{Pairs, pairings}
 use Prim.Native.Nat.{_-_}
+use Rattle.files.specs.Contents.{maxPairs}
 use Rattle.disk.specs.Disk.{bytesOf}
 use Rattle.files.proofs.copy_pairs.Statement.{statement}
 use Rattle.files.proofs.copy_pairs.Tie as tie
@@ -8,7 +9,7 @@ abbrev Inv-loop : tie.InvT-loop
 Inv-loop disk per p out₀ size s₀ i₀ out s i = Pairs per disk (bytesOf per disk) p size s₀ out₀ i s out
 
 abbrev μ-loop : tie.MeasureT-loop
-μ-loop disk per p out₀ size s₀ i₀ out s i = 121 - i
+μ-loop disk per p out₀ size s₀ i₀ out s i = maxPairs - i
 
 pub copy-pairs-spec : {M : Type 1} → statement M
 copy-pairs-spec =

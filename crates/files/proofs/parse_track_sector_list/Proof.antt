@@ -1,5 +1,6 @@
 use Rattle.files.proofs.Runs.{Pairing, pairings, pairing-more}
 use Prim.Native.Nat.{_-_}
+use Rattle.files.specs.Contents.{maxPairs}
 use Rattle.files.proofs.parse_track_sector_list.Statement.{statement}
 use Rattle.files.proofs.parse_track_sector_list.Tie as tie
 
@@ -7,7 +8,7 @@ abbrev Inv-loop : tie.InvT-loop
 Inv-loop disk per p i₀ good₀ i good = Pairing per disk p i good
 
 abbrev μ-loop : tie.MeasureT-loop
-μ-loop disk per p i₀ good₀ i good = 121 - i
+μ-loop disk per p i₀ good₀ i good = maxPairs - i
 
 pub parse-track-sector-list-spec : {M : Type 1} → statement M
 parse-track-sector-list-spec =

@@ -2,14 +2,15 @@ use Prim.Native.Nat.{_-_, _≤_}
 use lib.ListN.{length}
 use mathlib.Core.Path.{_≡_}
 use borrow.Author.Needs.{needs}
+use Rattle.files.specs.Contents.{maxPairs}
 use Rattle.linefiles.proofs.map.give_pairs.Statement.{statement}
 use Rattle.linefiles.proofs.map.give_pairs.Tie as tie
 
 abbrev Inv-loop : tie.InvT-loop
-Inv-loop disk per p uses₀ i₀ uses i = (i ≤ 121) × (length uses ≡ length uses₀)
+Inv-loop disk per p uses₀ i₀ uses i = (i ≤ maxPairs) × (length uses ≡ length uses₀)
 
 abbrev μ-loop : tie.MeasureT-loop
-μ-loop disk per p uses₀ i₀ uses i = 121 - i
+μ-loop disk per p uses₀ i₀ uses i = maxPairs - i
 
 pub give-pairs-spec : {M : Type 1} → statement M
 give-pairs-spec =

@@ -1,13 +1,14 @@
 use Prim.Native.Nat.{_-_, _≤_}
 use borrow.Author.Needs.{needs}
+use Rattle.files.specs.Contents.{maxPairs}
 use Rattle.linefiles.proofs.walk.bad_pair.Statement.{statement}
 use Rattle.linefiles.proofs.walk.bad_pair.Tie as tie
 
 abbrev Inv-loop : tie.InvT-loop
-Inv-loop disk per p i₀ i = i ≤ 121
+Inv-loop disk per p i₀ i = i ≤ maxPairs
 
 abbrev μ-loop : tie.MeasureT-loop
-μ-loop disk per p i₀ i = 121 - i
+μ-loop disk per p i₀ i = maxPairs - i
 
 pub bad-pair-spec : {M : Type 1} → statement M
 bad-pair-spec =
