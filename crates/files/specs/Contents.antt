@@ -42,7 +42,7 @@ pub record Proper (f : File) : Type 0 where
   pub bytes : Bytes (f .bytes)
   pub binaryOnly : (f .kind ≡ 4 → ⊥) → f .bytes ≡ []
 
--- the pairs that a list can have: BAD's 122 (Req 05; the Rust reads 121)
+-- the pairs that a list can have: to the end of its sector (Req 05; BAD has 122, the Rust 121)
 abbrev pub maxPairs : ℕ
 maxPairs = 122
 
