@@ -3,7 +3,7 @@
 import os
 
 HERE = os.path.dirname(os.path.abspath(__file__))
-PAIRS = 121  # pairs that are written to one list
+PAIRS = 122  # pairs that DOS writes to one list
 
 
 # A disk of 35 tracks by 16 sectors (DOS 3.3), or by 13 (DOS 3.2).
@@ -191,6 +191,14 @@ def overlong():
     return d
 
 
+# Lists with 121 pairs, with 122 and no next list, and with 122 and a next list.
+def last_pair():
+    d = Disk(254, 1)
+    for k, sectors in enumerate((121, 122, 125)):
+        d.file('DRIVE OF %d SECTORS' % sectors, 4, binary(line(41 + k, 256 * sectors - 4)))
+    return d
+
+
 # The same files on a disk of 13 sectors a track and on one of 16.
 def two_editions(per):
     d = Disk(32, 2, per=per)
@@ -286,6 +294,7 @@ def main():
     cut_link().write('cut-link.dsk')
     full().write('full.dsk')
     overlong().write('overlong.dsk')
+    last_pair().write('last-pair.dsk')
     with open(os.path.join(HERE, 'one-page.nib'), 'wb') as f:
         f.write(nibbles(one_page().d))
     two_editions(13).write('thirteen.dsk')

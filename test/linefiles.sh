@@ -92,6 +92,18 @@ nib_13() { echo $((480 * (13 * $1 + 4 * $2 % 13) + $3)); }
 # tidy: nothing but what is named lies in the folder `outs`.
 tidy() { [ "$(ls -A outs | tr '\n' ' ')" = "$*" ]; }
 
+# counted FILE: the sum of the counts under a map, those of the small letters left out.
+counted() { sed -n 's/^ *\([0-9]*\)   [VCLDX.#]   .*/\1/p' "$1" | awk '{ n += $1 } END { print n }'; }
+
+# pairs FILE TRACK SECTOR COUNT: that many pairs of a list on a disk of 16 sectors a track, a line each.
+pairs() { dd if="$1" bs=1 skip="$(at "$2" "$3" 12)" count=$((2 * $4)) status=none | od -A n -v -t u1 -w2; }
+
+# joined FILE: the sectors of the pairs on standard input, one behind the other.
+joined() {
+    local track sector
+    while read -r track sector; do dd if="$1" bs=256 skip=$((16 * track + sector)) count=1 status=none; done
+}
+
 sum_is() { [ "$(sha256sum <"$1")" = "$2  -" ]; }
 
 # plain FILE: no byte that a terminal may act on, and no line over 80 columns.
@@ -128,7 +140,7 @@ damaged list-off.dsk one-page.dsk "$(at 17 15 $((11 + 3 * 35)))" 1a 10
 same list-list-off list list-off.dsk
 damaged link-off.dsk one-page.dsk "$(at 18 11 1)" 23 01
 same list-link-off list link-off.dsk
-damaged pair-off.dsk one-page.dsk "$(at 25 1 14)" 18 10
+damaged pair-off.dsk one-page.dsk "$(at 26 15 14)" 18 10
 same list-pair-off list pair-off.dsk
 damaged link-bytes.dsk one-page.dsk "$(at 17 15 1)" 00 07
 patch link-bytes.dsk "$(at 18 15 2)" 09
@@ -226,6 +238,89 @@ patch stranger.nib "$(nib 2 0 57)" ff ff
 same denibblize-stranger denibblize stranger.nib outs/none
 holds denibblize-nothing-left not test -e outs/none
 
+# the last pair of a list: a file of 121 pairs, one of 122 and no next list, one of 122 and a next list
+rm -f outs/*
+same list-last-pair list samples/last-pair.dsk
+holds list-last-pair-plain plain out
+sed 1d out >listed-last
+same survey-last-pair survey samples/last-pair.dsk
+same map-last-pair map samples/last-pair.dsk
+holds map-last-pair-560 test "$(counted out)" = 560
+pairs samples/last-pair.dsk 18 15 121 | joined samples/last-pair.dsk >sectors-121
+pairs samples/last-pair.dsk 25 5 122 | joined samples/last-pair.dsk >sectors-122
+{
+    pairs samples/last-pair.dsk 33 10 122
+    pairs samples/last-pair.dsk 10 15 3
+} | joined samples/last-pair.dsk >sectors-125
+same get-last-pair-121 get samples/last-pair.dsk 'DRIVE OF 121 SECTORS' outs/121
+holds get-last-pair-121-bytes cmp <(tail -c +5 sectors-121) outs/121
+same get-last-pair-122 get samples/last-pair.dsk 'DRIVE OF 122 SECTORS' outs/122
+holds get-last-pair-122-bytes cmp <(tail -c +5 sectors-122) outs/122
+dd if=samples/last-pair.dsk of=wanted bs=1 skip="$(at 33 11 0)" count=256 status=none
+holds get-last-pair-122-last cmp wanted <(tail -c 256 outs/122)
+same get-last-pair-125 get samples/last-pair.dsk 'DRIVE OF 125 SECTORS' outs/125
+holds get-last-pair-125-bytes cmp <(tail -c +5 sectors-125) outs/125
+dd if=samples/last-pair.dsk of=wanted bs=1 skip="$(at 11 0 0)" count=256 status=none
+holds get-last-pair-125-last cmp wanted <(tail -c +$((121 * 256 - 3)) outs/125 | head -c 256)
+# these sums are of the lines that make.py puts on the disk
+holds get-last-pair-121-sum sum_is outs/121 a272a44816a66b43c5fe1d6fc5fa6088e27e2c6262bea66bfe9eef7db0ad6ba0
+holds get-last-pair-122-sum sum_is outs/122 c7e9f57c0bce8170a515cd7eb3b08495513ba27fd073a2a872fc1e0369eba9d0
+holds get-last-pair-125-sum sum_is outs/125 6677db4cb199754e08c55065f2037050a9b8d466d97524fdf9f17ffb214f697e
+same archive-last-pair archive samples/last-pair.dsk outs/last.arc
+holds archive-last-pair-bytes sum_is outs/last.arc 5e960975e4feafd9443d1e26315704df95b2a46ac60cd0149dccbc7b4acb2d13
+same check-last-pair check samples/last-pair.dsk outs/last.arc
+same show-last-pair show outs/last.arc
+same nibblize-last-pair nibblize samples/last-pair.dsk outs/last.nib
+same list-last-pair-nibbles list outs/last.nib
+holds list-last-pair-nibbles-equal diff listed-last <(sed 1d out)
+same get-last-pair-nibbles get outs/last.nib 'DRIVE OF 125 SECTORS' outs/125-nibbles
+holds get-last-pair-nibbles-bytes cmp outs/125 outs/125-nibbles
+same check-last-pair-nibbles check outs/last.nib outs/last.arc
+
+# pair 122 off the disk, by its track and by its sector
+damaged pair-off.dsk last-pair.dsk "$(at 25 5 254)" 23
+same list-pair-122-track list pair-off.dsk
+same check-pair-122-track check pair-off.dsk outs/last.arc
+damaged pair-off.dsk last-pair.dsk "$(at 33 10 255)" 10
+same list-pair-122-sector list pair-off.dsk
+same survey-pair-122-sector survey pair-off.dsk
+same map-pair-122-sector map pair-off.dsk
+same get-pair-122-sector get pair-off.dsk 'DRIVE OF 121 SECTORS' outs/none
+same archive-pair-122-sector archive pair-off.dsk outs/none
+holds pair-122-nothing-left not test -e outs/none
+
+# a byte of its sector changed; another sector in its place
+damaged changed.dsk last-pair.dsk "$(at 33 11 255)" ff
+same check-pair-122-data check changed.dsk outs/last.arc
+damaged changed.dsk last-pair.dsk "$(at 11 0 0)" ff
+same check-pair-122-data-next check changed.dsk outs/last.arc
+damaged changed.dsk last-pair.dsk "$(at 33 10 254)" 12 0e
+same check-pair-122-other check changed.dsk outs/last.arc
+
+# with track 0 it is no pair, whatever its sector: 121 are left, the length does not fit, and the sector is in no chain; a next list is followed
+damaged no-pair.dsk last-pair.dsk "$(at 25 5 254)" 00
+patch no-pair.dsk "$(at 33 10 254)" 00 07
+same list-pair-122-none list no-pair.dsk
+same map-pair-122-none map no-pair.dsk
+same get-pair-122-none get no-pair.dsk 'DRIVE OF 122 SECTORS' outs/122-none
+holds get-pair-122-none-bytes cmp <(head -c $((121 * 256)) sectors-122) outs/122-none
+same get-pair-122-none-next get no-pair.dsk 'DRIVE OF 125 SECTORS' outs/125-none
+holds get-pair-122-none-next-bytes cmp <(head -c $((121 * 256)) sectors-125; tail -c $((3 * 256)) sectors-125) outs/125-none
+# behind a pair of track 0 it is not looked at
+patch no-pair.dsk "$(at 25 5 252)" 00 0c 23 10
+same list-pair-121-none list no-pair.dsk
+# bytes 254 and 255 of the list of 121 pairs
+damaged pair.dsk last-pair.dsk "$(at 18 15 254)" 22 0f
+same list-pair-122-added list pair.dsk
+
+# byte 39 of the VTOC, the pairs of a list, is not used
+damaged byte-39.dsk last-pair.dsk "$(at 17 0 39)" 79
+run list byte-39.dsk
+holds byte-39-121 diff listed-last <(sed 1d out)
+patch byte-39.dsk "$(at 17 0 39)" 00
+run check byte-39.dsk outs/last.arc
+holds byte-39-check test "$status" = 0
+
 # 13 sectors a track, flat and as a stream: list, survey, map
 rm -f outs/*
 same list-thirteen list samples/thirteen.dsk
@@ -243,8 +338,6 @@ same survey-thirteen-nibbles survey samples/thirteen.nib
 same map-thirteen map samples/thirteen.dsk
 holds map-thirteen-plain plain out
 cp out mapped
-# counted FILE: the sum of the counts under a map, those of the small letters left out.
-counted() { sed -n 's/^ *\([0-9]*\)   [VCLDX.#]   .*/\1/p' "$1" | awk '{ n += $1 } END { print n }'; }
 holds map-thirteen-455 test "$(counted mapped)" = 455
 same map-thirteen-nibbles map samples/thirteen.nib
 run map samples/same-files.dsk
@@ -279,9 +372,14 @@ damaged list-off.dsk thirteen.dsk "$(at_13 17 12 $((11 + 4 * 35 + 1)))" 0d
 same list-thirteen-list-off list list-off.dsk
 damaged link-off.dsk thirteen.dsk "$(at_13 18 6 1)" 1b 0d
 same list-thirteen-link-off list link-off.dsk
-damaged pair-off.dsk thirteen.dsk "$(at_13 27 1 14)" 1b 0d
+damaged pair-off.dsk thirteen.dsk "$(at_13 28 12 12)" 1b 0d
 same list-thirteen-pair-off list pair-off.dsk
-damaged ring.dsk thirteen.dsk "$(at_13 27 1 1)" 12 06
+damaged pair-off.dsk thirteen.dsk "$(at_13 18 6 254)" 23
+same list-thirteen-pair-122-track list pair-off.dsk
+damaged pair-off.dsk thirteen.dsk "$(at_13 18 6 255)" 0d
+same list-thirteen-pair-122-sector list pair-off.dsk
+same archive-thirteen-pair-122-sector archive pair-off.dsk outs/none
+damaged ring.dsk thirteen.dsk "$(at_13 28 12 1)" 12 06
 same list-thirteen-ring list ring.dsk
 damaged ring-of-pages.dsk thirteen.dsk "$(at_13 17 11 1)" 11 0c
 same list-thirteen-ring-of-pages list ring-of-pages.dsk
@@ -300,6 +398,7 @@ holds get-thirteen-bytes cmp wanted outs/stations
 same get-thirteen-nibbles get samples/thirteen.nib 'LINE 2 RINGS 2 TO 2603' outs/rings
 "$root/linefiles" get samples/same-files.dsk 'LINE 2 RINGS 2 TO 2603' outs/rings-16 >/dev/null
 holds get-thirteen-nibbles-bytes cmp outs/rings outs/rings-16
+holds get-thirteen-nibbles-sum sum_is outs/rings 56dcb95005672fc47ed92dec45e3e033a8fffd68f5609de0e8d0e588f4abb60d
 same get-thirteen-deleted get samples/thirteen.dsk 'LINE 2 OLD' outs/none
 same archive-thirteen archive samples/thirteen.dsk outs/13.arc
 holds archive-thirteen-bytes sum_is outs/13.arc cae3d31b43207e1f5ca9f799966edb21434c1da84dfb21ba927d2d9b92065a60
