@@ -96,8 +96,8 @@ enum {
     DOS33_STREAM_SIZE = 232960,     /* nibblize */
     DOS33_CATALOG_MOST = 145040,    /* catalog: 37 * 7 * 560 */
     DOS33_LISTS_MOST = 1120,        /* lists: 2 * 560 */
-    DOS33_PAIRS_MOST = 242,         /* pairs: 2 * 121 */
-    DOS33_PAIR_RUN_MOST = 121,      /* pair_run, in pairs */
+    DOS33_PAIR_RUN_MOST = 122,      /* pair_run, in pairs: bytes 12 to 255 of a list */
+    DOS33_PAIRS_MOST = 2 * DOS33_PAIR_RUN_MOST, /* pairs, in bytes */
     DOS33_FILE_MOST = 65536,        /* file, fetch */
     DOS33_ARCHIVE_MOST = 1048576,   /* archive_write: 256 * 4096 */
     DOS33_NIBBLES_SIZE = 343,       /* encode_sector: a sector in 6-and-2, and the sum */
@@ -140,7 +140,8 @@ uint8_t dos33_catalog(const uint8_t *disk, size_t disk_length,
 uint8_t dos33_lists(const uint8_t *disk, size_t disk_length, uint64_t entry,
                     uint8_t *out, size_t out_length, uint64_t *length);
 
-/* Track and sector of each pair of the list at that location. They are not followed. 1, 3, 12. */
+/* Track and sector of each pair of the list at that location, up to the first with track 0. They
+   are not followed. 1, 3, 12. */
 uint8_t dos33_pairs(const uint8_t *disk, size_t disk_length, uint8_t track, uint8_t sector,
                     uint8_t *out, size_t out_length, uint64_t *length);
 

@@ -1,15 +1,15 @@
 use crate::types::locations;
 use crate::{
     denibblize, denibblize_13, lend, nibblize, raw, Archive, CatalogEntry, File, FileType,
-    Location, Name, Refusal, Sector, Survey, Track, TrackSectorPair, Vtoc, SECTORS_PER_TRACK,
-    TRACKS,
+    Location, Name, Refusal, Sector, Survey, Track, TrackSectorPair, Vtoc, LIST_PAIRS,
+    SECTORS_PER_TRACK, TRACKS,
 };
 
 // The most that each call can need. A disk of 13 sectors a track has less of everything.
 const SECTORS_MOST: usize = SECTORS_PER_TRACK * TRACKS;
 const CATALOG_MOST: usize = 37 * 7 * SECTORS_MOST;
 const LISTS_MOST: usize = 2 * SECTORS_MOST;
-const PAIRS_MOST: usize = 2 * 121;
+const PAIRS_MOST: usize = 2 * LIST_PAIRS;
 // A length of 65,535 at most, or all of 256 sectors at most: with one sector more every length fits.
 const FILE_MOST: usize = 65_536;
 const ARCHIVE_MOST: usize = 256 * 4096;
@@ -220,7 +220,8 @@ impl<'a> Disk<'a> {
         Ok(locations(&run))
     }
 
-    /// The pairs of the track/sector list at a location. They are not followed: each may be off the disk.
+    /// The pairs of the track/sector list at a location, up to the first with track 0. They are not
+    /// followed: each may be off the disk.
     ///
     /// # Errors
     /// 1, 3.

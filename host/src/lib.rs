@@ -102,6 +102,6 @@ pub const DISK_SIZE_13: usize = 256 * SECTORS_PER_TRACK_13 * TRACKS;
 /// The bytes of a stream that [`nibblize`] writes.
 pub const STREAM_SIZE: usize = 232_960;
 
-/// The pairs that a track/sector list has at most: so much space is always enough for
-/// [`Disk::pair_run`].
-pub const LIST_PAIRS: usize = 121;
+/// The pairs that a track/sector list has at most: bytes 12 to 255 of its sector. So much space is
+/// always enough for [`Disk::pair_run`].
+pub const LIST_PAIRS: usize = 122;

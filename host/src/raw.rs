@@ -74,7 +74,8 @@ extern "C" {
         length: *mut u64,
     ) -> u8;
 
-    /// The same pairs in a run of structs; `*length` is their number, at most 121. Refusals 1, 3, 12.
+    /// The same pairs in a run of structs; `*length` is their number, at most
+    /// [`LIST_PAIRS`](crate::LIST_PAIRS). Refusals 1, 3, 12.
     pub fn dos33_pair_run(
         disk: *const u8,
         disk_length: usize,

@@ -211,7 +211,7 @@ pub struct Vtoc {
     pub release: u8,
     /// Volume byte.
     pub volume: u8,
-    /// Stated maximum of pairs in a list.
+    /// Stated maximum of pairs in a list. No call goes by it.
     pub pair_maximum: u8,
     /// Last track on which sectors were allocated.
     pub last_track: Track,

@@ -31,9 +31,10 @@ fn with_lists(lengths: &[usize]) -> (Vec<u8>, Vec<Vec<TrackSectorPair>>) {
             d[list + 13 + 2 * k] = p.sector_number;
         }
         // Behind the end, which is a zero track: not read.
-        if n < 120 {
-            d[list + 13 + 2 * n] = 9;
-            d[list + 14 + 2 * n..list + 16 + 2 * n].copy_from_slice(&[5, 5]);
+        for (k, byte) in [9, 5, 5].into_iter().enumerate() {
+            if 13 + 2 * n + k < 256 {
+                d[list + 13 + 2 * n + k] = byte;
+            }
         }
         lists.push(pairs);
     }
@@ -60,7 +61,8 @@ fn two_bytes_as_in_c() {
 
 #[test]
 fn lists_of_many_lengths() {
-    let lengths = [0, 1, 2, 5, 6, 7, 60, 119, 120, 121];
+    let most = [LIST_PAIRS - 3, LIST_PAIRS - 2, LIST_PAIRS - 1, LIST_PAIRS];
+    let lengths = [&[0, 1, 2, 5, 6, 7, 60], &most[..]].concat();
     let (d, lists) = with_lists(&lengths);
     let flat = Disk::flat(&d);
     let nibbles = Disk::nibbles(&flat.nibblize().unwrap()).unwrap();
@@ -94,16 +96,17 @@ fn lists_of_many_lengths() {
     }
 }
 
-// A list without a zero ends after 121 pairs: bytes 254 and 255 are not read.
+// A list without a zero ends with its sector: bytes 254 and 255 are the last pair.
 #[test]
 fn the_most_pairs() {
     let mut d = disk();
     d[at(30, 0)..at(30, 1)].fill(200);
-    assert_eq!(
-        call(&d, 30, 0, 122),
-        (0, 121, [&[pair(200, 200); 121][..], &[OLD]].concat())
-    );
-    assert_eq!(call(&d, 30, 0, 120), (12, OLD_LENGTH, vec![OLD; 120]));
+    d[at(30, 0) + 254..at(30, 1)].copy_from_slice(&[201, 202]);
+    let mut due = vec![pair(200, 200); LIST_PAIRS - 1];
+    due.extend([pair(201, 202), OLD]);
+    assert_eq!(call(&d, 30, 0, LIST_PAIRS + 1), (0, LIST_PAIRS as u64, due));
+    let less = LIST_PAIRS - 1;
+    assert_eq!(call(&d, 30, 0, less), (12, OLD_LENGTH, vec![OLD; less]));
 }
 
 // 1 before 3 before 12, and under each of them nothing changes.
@@ -113,7 +116,7 @@ fn refusals_in_order() {
     let longer = [&d[..], &[0]].concat();
     for wrong in [&d[1..], &longer, &[]] {
         for (track, sector) in [(30, 0), (35, 0), (30, 16), (255, 255)] {
-            for room in [0, 5, 121] {
+            for room in [0, 5, LIST_PAIRS] {
                 assert_eq!(
                     call(wrong, track, sector, room),
                     (1, OLD_LENGTH, vec![OLD; room])
@@ -126,18 +129,18 @@ fn refusals_in_order() {
         );
     }
     for (track, sector) in [(35, 0), (30, 16), (34, 16), (255, 255)] {
-        for room in [0, 5, 121] {
+        for room in [0, 5, LIST_PAIRS] {
             assert_eq!(
                 call(&d, track, sector, room),
                 (3, OLD_LENGTH, vec![OLD; room])
             );
         }
-        let mut run = [OLD; 121];
+        let mut run = [OLD; LIST_PAIRS];
         assert_eq!(
             Disk::flat(&d).pair_run(Track(track), Sector(sector), &mut run),
             Err(Refusal::OffDisc)
         );
-        assert_eq!(run, [OLD; 121]);
+        assert_eq!(run, [OLD; LIST_PAIRS]);
     }
     for room in 0..6 {
         assert_eq!(call(&d, 30, 0, room), (12, OLD_LENGTH, vec![OLD; room]));
@@ -165,7 +168,7 @@ fn refusals_in_order_with_13_sectors() {
     }
     let longer = [&d[..], &[0]].concat();
     for (track, sector) in [(30, 13), (30, 15), (34, 13), (35, 0), (255, 255)] {
-        for room in [0, 2, 121] {
+        for room in [0, 2, LIST_PAIRS] {
             let number = |d| call(d, track, sector, room);
             assert_eq!(number(&d), (3, OLD_LENGTH, vec![OLD; room]));
             assert_eq!(number(&d[1..]), (1, OLD_LENGTH, vec![OLD; room]));
@@ -181,7 +184,7 @@ fn refusals_in_order_with_13_sectors() {
 #[test]
 fn the_same_as_the_bytes() {
     let mut dice = common::Dice(0x9A125);
-    let mut lengths = [0; 122];
+    let mut lengths = [0; LIST_PAIRS + 1];
     for (zeros, size) in [1, 8, 40, 200]
         .into_iter()
         .flat_map(|z| [(z, DISK_SIZE), (z, DISK_SIZE_13)])
@@ -211,5 +214,5 @@ fn the_same_as_the_bytes() {
             }
         }
     }
-    assert!(lengths[0] > 0 && lengths[1] > 0 && lengths[121] > 0);
+    assert!(lengths[0] > 0 && lengths[1] > 0 && lengths[LIST_PAIRS] > 0);
 }

@@ -98,13 +98,13 @@ fn lists_and_pairs() {
     });
 }
 
-// A list without a zero ends after 121 pairs.
+// A list without a zero ends with its sector.
 #[test]
 fn the_most_pairs() {
     let mut d = disk();
     d[at(30, 0)..at(30, 0) + 256].fill(200);
     let pairs = Disk::flat(&d).pairs(Track(30), Sector(0)).unwrap();
-    assert_eq!(pairs, [place(200, 200); 121]);
+    assert_eq!(pairs, [place(200, 200); LIST_PAIRS]);
 }
 
 #[test]
@@ -162,7 +162,7 @@ fn the_longest_files() {
     let mut d = common::large(1);
     assert_eq!(Disk::flat(&d).file(0).unwrap(), vec![0xFF; 65_535]);
     // One pair less: 65,536 bytes, of which 65,532 do not hold 65,535.
-    d[at(20, 3) + 12 + 28] = 0;
+    d[at(20, 3) + 12 + 2 * (common::LARGE[2] - 1)] = 0;
     assert_eq!(Disk::flat(&d).file(0).unwrap(), vec![0xFF; 65_536]);
     assert_eq!(Disk::flat(&d).fetch("BIG").unwrap().len(), 65_536);
     assert_eq!(Disk::flat(&d).lists(0).unwrap().len(), 3);

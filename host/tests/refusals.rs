@@ -172,10 +172,10 @@ fn the_last_archive_that_is_not_overlong() {
     common::entry(&mut d, 17, page, slot, (20, 4), 4, "REST", 194);
     d[at(20, 4) + 1] = 20;
     d[at(20, 4) + 2] = 5;
-    for p in 0..121 {
+    for p in 0..LIST_PAIRS {
         d[at(20, 4) + 12 + 2 * p] = 1;
     }
-    for p in 0..71 {
+    for p in 0..192 - LIST_PAIRS {
         d[at(20, 5) + 12 + 2 * p] = 1;
     }
     let archive = Disk::flat(&d).archive().unwrap();

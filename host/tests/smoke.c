@@ -45,6 +45,7 @@ int main(void) {
     uint8_t data[300], listed[37] = {18, 2, DOS33_BINARY, 1, 4, 'L', 'I', 'N', 'E'};
     uint8_t small[4] = {1, 2, 3, 4};
     dos33_track_sector_pair run[3] = {{77, 78}, {77, 78}, {77, 78}};
+    static dos33_track_sector_pair full[DOS33_PAIR_RUN_MOST];
     uint64_t f[DOS33_VTOC_FIELDS], g[DOS33_STEP_FIELDS], n = 0, blocks, k, block, left, size;
 
     listed[35] = 3;
@@ -87,7 +88,16 @@ int main(void) {
     EXPECT(n == 2 && run[0].track_number == 18 && run[0].sector_number == 3);
     EXPECT(run[1].track_number == 18 && run[1].sector_number == 4);
     EXPECT(run[2].track_number == 77 && run[2].sector_number == 78);
-    EXPECT(sizeof run == 6 && DOS33_PAIR_RUN_MOST == 121);
+    EXPECT(sizeof run == 6 && DOS33_PAIR_RUN_MOST == 122 && DOS33_PAIRS_MOST == 244);
+    /* A list to its end, in space for that many. */
+    memset(at(34, 15), 34, 256);
+    EXPECT(dos33_pair_run(disk, sizeof disk, 34, 15, full, DOS33_PAIR_RUN_MOST - 1, &n) == DOS33_TRAY_SHORT);
+    EXPECT(n == 2 && full[0].track_number == 0);
+    EXPECT(dos33_pair_run(disk, sizeof disk, 34, 15, full, DOS33_PAIR_RUN_MOST, &n) == 0);
+    EXPECT(n == DOS33_PAIR_RUN_MOST && full[n - 1].track_number == 34 && full[n - 1].sector_number == 34);
+    EXPECT(dos33_pairs(disk, sizeof disk, 34, 15, out, DOS33_PAIRS_MOST - 1, &n) == DOS33_TRAY_SHORT);
+    EXPECT(dos33_pairs(disk, sizeof disk, 34, 15, out, DOS33_PAIRS_MOST, &n) == 0);
+    EXPECT(n == DOS33_PAIRS_MOST && out[n - 1] == 34);
     EXPECT(dos33_file(disk, sizeof disk, 0, out, sizeof out, &n) == 0);
     EXPECT(n == 300 && memcmp(out, data, 300) == 0);
     EXPECT(dos33_fetch(disk, sizeof disk, name, 4, out, sizeof out, &n) == 0 && n == 300);

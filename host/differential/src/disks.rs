@@ -1,5 +1,8 @@
 // Flat disks, good ones and damaged ones.
+use dos33::LIST_PAIRS;
+
 use crate::random::Random;
+use crate::walk::{self, RUST_PAIRS};
 
 pub type Place = (u8, u8);
 
@@ -21,6 +24,9 @@ struct Builder<'r> {
     entries: Vec<usize>,
     chains: Vec<Vec<Place>>,
     names: Vec<[u8; 30]>,
+    // The pairs that a list has at most, but for damage: one disk in five has lists that image-rider does not read
+    // to their end.
+    most_pairs: usize,
     // The size at the end.
     size: usize,
 }
@@ -47,6 +53,11 @@ pub fn disk(random: &mut Random) -> Vec<u8> {
     for k in (1..free.len()).rev() {
         free.swap(k, random.below(k + 1));
     }
+    let most_pairs = if random.one_in(5) {
+        LIST_PAIRS
+    } else {
+        RUST_PAIRS
+    };
     let mut b = Builder {
         random,
         disk,
@@ -55,6 +66,7 @@ pub fn disk(random: &mut Random) -> Vec<u8> {
         entries: Vec::new(),
         chains: Vec::new(),
         names: Vec::new(),
+        most_pairs,
         size: SIZE,
     };
     b.table();
@@ -220,7 +232,7 @@ impl Builder<'_> {
             list[2] = link.1;
             let count = counts[k];
             let fresh = self.random.one_in(2);
-            for j in 0..122.min(count + 1) {
+            for j in 0..LIST_PAIRS.min(count + 1) {
                 let pair = if j < count {
                     let taken = if fresh && self.free.len() > 150 {
                         self.linkable()
@@ -243,6 +255,16 @@ impl Builder<'_> {
         Some(places)
     }
 
+    // How many pairs a list has.
+    fn count(&mut self) -> usize {
+        if self.random.below(11) < 3 {
+            let count = self.random.pick(&[RUST_PAIRS - 1, RUST_PAIRS, LIST_PAIRS]);
+            count.min(self.most_pairs)
+        } else {
+            self.random.pick(&[0, 1, 1, 2, 3, 5, 9, 20])
+        }
+    }
+
     // Lists and data for every entry.
     fn fill_in(&mut self) {
         let big = self.random.below(60);
@@ -258,15 +280,14 @@ impl Builder<'_> {
                 // Around 65,536 bytes.
                 kind = 4;
                 let sectors = self.random.within(255, 259);
-                vec![121, 121, sectors - 242]
+                let most = self.most_pairs;
+                vec![most, most, sectors - 2 * most]
             } else if k == 0 && big == 6 {
                 let n = self.random.within(30, 400);
                 (0..n).map(|_| self.random.pick(&[0, 1, 2])).collect()
             } else {
                 let n = self.random.pick(&[1, 1, 1, 1, 1, 2, 2, 3, 6]);
-                (0..n)
-                    .map(|_| self.random.pick(&[0, 1, 1, 2, 3, 5, 9, 20, 120, 121, 122]))
-                    .collect()
+                (0..n).map(|_| self.count()).collect()
             };
             let shared = !self.chains.is_empty() && self.random.one_in(6);
             let chain = if shared {
@@ -295,15 +316,9 @@ impl Builder<'_> {
         let mut first = None;
         let mut size = 0;
         for place in chain {
-            let list = start(*place);
-            for j in 0..121 {
-                let pair = (self.disk[list + 12 + 2 * j], self.disk[list + 13 + 2 * j]);
-                if pair.0 == 0 {
-                    break;
-                }
-                first = first.or(Some(pair));
-                size += 256;
-            }
+            let pairs = walk::pairs(&self.disk, *place);
+            first = first.or(pairs.first().copied());
+            size += 256 * pairs.len();
         }
         let Some(first) = first else { return };
         // Not over a list or a page.
@@ -408,7 +423,8 @@ impl Builder<'_> {
                     if off.0 > 34 && self.random.one_in(2) {
                         off.1 = 0;
                     }
-                    let at = self.random.pick(&[0, 0, 1, 2, 119, 120, 121]);
+                    let last = LIST_PAIRS - 1;
+                    let at = self.random.pick(&[0, 0, 1, 2, last - 2, last - 1, last]);
                     self.put(from, 12 + 2 * at, &[off.0, off.1]);
                 }
             }

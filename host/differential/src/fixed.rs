@@ -1,4 +1,6 @@
-// Small inputs with the number that document 01 gives them, compared like all others.
+// Small inputs with the number that the documents give them, compared like all others or left out like all others.
+use dos33::LIST_PAIRS;
+
 use crate::config::Config;
 use crate::disks::{start, Place, SIZE};
 use crate::load;
@@ -6,7 +8,11 @@ use crate::ours::Ours;
 use crate::random::Random;
 use crate::report::Report;
 use crate::streams;
+use crate::walk::RUST_PAIRS;
 use crate::worker::Worker;
+
+// The pairs of a list that image-rider does not read to its end.
+const FULL: [Place; LIST_PAIRS] = [(2, 2); LIST_PAIRS];
 
 struct Disk(Vec<u8>);
 
@@ -37,9 +43,14 @@ impl Disk {
         self.put(page, 11 + 35 * slot, &record);
     }
 
+    // Pair number k of a list, from 0.
+    fn pair(&mut self, list: Place, k: usize, pair: Place) {
+        self.put(list, 12 + 2 * k, &[pair.0, pair.1]);
+    }
+
     fn pairs(&mut self, list: Place, pairs: &[Place]) {
         for (k, p) in pairs.iter().enumerate() {
-            self.put(list, 12 + 2 * k, &[p.0, p.1]);
+            self.pair(list, k, *p);
         }
     }
 
@@ -48,6 +59,25 @@ impl Disk {
         let mut disk = Disk::new();
         disk.entry((17, 15), 0, (1, 1), kind, &[0xC1]);
         disk.pairs((1, 1), &[(2, 2)]);
+        disk
+    }
+
+    // The same with a full list.
+    fn full() -> Disk {
+        let mut disk = Disk::file(4);
+        disk.pairs((1, 1), &FULL);
+        disk
+    }
+
+    // The same with so many pairs and that length, in two lists of `most` pairs and a third.
+    fn long(most: usize, pairs: usize, length: u16) -> Disk {
+        let mut disk = Disk::file(4);
+        disk.put((2, 2), 2, &length.to_le_bytes());
+        disk.link((1, 1), (1, 2));
+        disk.link((1, 2), (1, 3));
+        disk.pairs((1, 1), &vec![(2, 2); most]);
+        disk.pairs((1, 2), &vec![(2, 3); most]);
+        disk.pairs((1, 3), &vec![(2, 4); pairs - 2 * most]);
         disk
     }
 }
@@ -160,24 +190,32 @@ fn disks() -> Vec<(&'static str, u8, Vec<u8>)> {
     }
     for count in [255, 256, 257, 258] {
         for length in 65_530..=65_535u16 {
-            let mut d = Disk::file(4);
-            d.put((2, 2), 2, &length.to_le_bytes());
-            d.link((1, 1), (1, 2));
-            d.link((1, 2), (1, 3));
-            d.pairs((1, 1), &[(2, 2); 121]);
-            d.pairs((1, 2), &[(2, 3); 121]);
-            d.pairs((1, 3), &vec![(2, 4); count - 242]);
+            let d = Disk::long(RUST_PAIRS, count, length);
             add("around 65,536 bytes", 0, &d);
         }
     }
-    // Pair 122 is not read; pair 121 is.
+    // As many pairs as image-rider reads, and then a zero track. The last of them is followed.
     let mut d = Disk::file(4);
-    d.pairs((1, 1), &[(2, 2); 122]);
-    add("122 pairs", 0, &d);
-    d.pairs((1, 1), &[[(2, 2); 121].as_slice(), &[(99, 0)]].concat());
-    add("pair 122 off the disk", 0, &d);
-    d.pairs((1, 1), &[[(2, 2); 120].as_slice(), &[(99, 0)]].concat());
-    add("pair 121 off the disk", 3, &d);
+    d.pairs((1, 1), &[(2, 2); RUST_PAIRS]);
+    d.pair((1, 1), RUST_PAIRS, (0, 99));
+    add("as many pairs as image-rider reads", 0, &d);
+    d.pair((1, 1), RUST_PAIRS - 1, (99, 0));
+    add("the last pair that image-rider reads, off the disk", 3, &d);
+
+    // One more, in a list that nobody follows.
+    let mut d = Disk::file(4);
+    d.pairs((1, 2), &FULL);
+    add("a full list of no entry", 0, &d);
+    d.link((1, 1), (0, 2));
+    add("a full list behind the last", 0, &d);
+    d.pairs((2, 2), &FULL);
+    add("a full list in data", 0, &d);
+    d.pairs((0, 2), &FULL);
+    d.entry((17, 15), 1, (0, 2), 4, &[0xC2]);
+    add("a full list of a dead entry", 0, &d);
+    let mut d = Disk::full();
+    d.0.pop();
+    add("a full list, one byte less", 1, &d);
 
     // Two of one name: the last counts. The first is looked at all the same.
     let mut d = Disk::file(4);
@@ -214,15 +252,62 @@ fn disks() -> Vec<(&'static str, u8, Vec<u8>)> {
     all
 }
 
+// Small inputs that are not compared, since a list has a pair more than image-rider reads, with our number.
+fn full_lists() -> Vec<(&'static str, u8, Vec<u8>)> {
+    let mut all: Vec<(&'static str, u8, Vec<u8>)> = Vec::new();
+    let mut add = |what, number, disk: &Disk| all.push((what, number, disk.0.clone()));
+
+    let mut d = Disk::full();
+    add("a full list", 0, &d);
+    d.0.push(0);
+    add("a full list, one byte more", 1, &d);
+    for (last, number) in [((34, 15), 0), ((35, 0), 3), ((34, 16), 3), ((99, 0), 3)] {
+        let mut d = Disk::full();
+        d.pair((1, 1), RUST_PAIRS, last);
+        add("the last pair of a full list", number, &d);
+    }
+    for (link, number) in [((1, 2), 0), ((1, 0), 5), ((35, 1), 3), ((1, 1), 4)] {
+        let mut d = Disk::full();
+        d.link((1, 1), link);
+        add("a full list and its link", number, &d);
+    }
+    let mut d = Disk::file(4);
+    d.link((1, 1), (34, 15));
+    d.pairs((34, 15), &FULL);
+    add("a full second list", 0, &d);
+    d.link((34, 15), (1, 1));
+    add("a full list in a ring", 4, &d);
+    let mut d = Disk::file(4);
+    d.link((17, 15), (3, 3));
+    d.entry((3, 3), 6, (34, 0), 0, &[0xC2]);
+    d.pairs((34, 0), &FULL);
+    add("a full list of the second page", 0, &d);
+    d.pairs((1, 1), &[(35, 0)]);
+    add("a full list behind a pair off the disk", 3, &d);
+    for count in [255, 256, 257, 258] {
+        for length in 65_530..=65_535u16 {
+            let d = Disk::long(LIST_PAIRS, count, length);
+            add("around 65,536 bytes, full lists", 0, &d);
+        }
+    }
+    all
+}
+
 pub fn run(worker: &mut Worker, config: &Config, ours: &mut Ours, report: &mut Report) {
     let random = &mut Random::new(1);
-    for (what, number, disk) in disks() {
+    let compared = disks().into_iter().map(|small| (small, true));
+    let left_out = full_lists().into_iter().map(|small| (small, false));
+    for ((what, number, disk), due) in compared.chain(left_out) {
         let mine = ours.file(&disk, 0, report).number;
         if mine != number {
             report.difference("load", &disk, format!("{what}: {mine}, not {number}"));
         }
-        load::compare(&disk, random, worker, ours, report);
-        report.compared("small disks with their number");
+        if load::compare(&disk, random, worker, ours, report) != due {
+            report.difference("load", &disk, format!("{what}: compared or left out"));
+        }
+        if due {
+            report.compared("small disks with their number");
+        }
     }
 
     // A wrong address sum; a wrong data sum; AAh is read as 0; one nibble short; the full stream of a disk.

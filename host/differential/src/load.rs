@@ -1,11 +1,11 @@
 // The load of a flat disk: apple_disk_parser against the flat functions.
-use std::collections::HashSet;
 use std::time::Duration;
 
 use crate::disks::{self, start, Place, SIZE};
 use crate::ours::{Answer, Ours};
 use crate::random::Random;
 use crate::report::Report;
+use crate::walk;
 use crate::worker::{Load, Theirs, Worker};
 
 // How long image-rider has for a disk that holds a ring, and for any other.
@@ -20,18 +20,37 @@ pub fn load(random: &mut Random, worker: &mut Worker, ours: &mut Ours, report: &
     compare(&disk, random, worker, ours, report);
 }
 
+// Compares, unless a list has more pairs than image-rider reads: then ours alone is called. Gives whether it compared.
 pub fn compare(
     disk: &[u8],
     random: &mut Random,
     worker: &mut Worker,
     ours: &mut Ours,
     report: &mut Report,
-) {
+) -> bool {
     assert_ne!(disk.len(), disks::SIZE_13, "a disk of 13 sectors a track");
-    let differ = |report: &Report, text: String| -> ! { report.difference("load", disk, text) };
-    report.compared("apple_disk_parser");
+    let mine = mine(disk, random, ours, report);
+    if walk::holds_full_list(disk) {
+        report.left_out();
+        if let Err(text) = left_out(disk, &mine, ours, report) {
+            report.difference("load", disk, text);
+        }
+        return false;
+    }
+    beside(disk, &mine, random, worker, ours, report);
+    true
+}
 
-    // The number of the whole disk, and those of the calls that stop before.
+// The number of the whole disk, and what the calls give that stop before.
+struct Mine {
+    whole: u8,
+    table: (u8, Vec<u64>),
+    catalog: Answer,
+}
+
+// Ours alone: the numbers of the calls agree.
+fn mine(disk: &[u8], random: &mut Random, ours: &mut Ours, report: &mut Report) -> Mine {
+    let differ = |report: &Report, text: String| -> ! { report.difference("load", disk, text) };
     let entry = random.below(8) as u64;
     let whole = ours.file(disk, entry, report).number;
     let table = ours.vtoc(disk, report);
@@ -60,8 +79,68 @@ pub fn compare(
             differ(report, format!("lists and fetch {others:?}, file {whole}"));
         }
     }
-
     ours.pairs_somewhere(disk, report);
+    Mine {
+        whole,
+        table,
+        catalog,
+    }
+}
+
+// A disk that is not compared: its first entries are by the rule of document 01, with all pairs of a list.
+fn left_out(disk: &[u8], mine: &Mine, ours: &mut Ours, report: &mut Report) -> Result<(), String> {
+    if mine.whole != 0 {
+        return Ok(());
+    }
+    for (k, e) in mine.catalog.bytes.chunks_exact(37).take(MOST).enumerate() {
+        let first = (e[0], e[1]);
+        let lists = walk::lists(disk, first).places;
+        if ours.lists(disk, k as u64, report) != given(&flat(&lists)) {
+            return Err(format!("entry {k}: the lists are not by the rule"));
+        }
+        for place in lists {
+            let pairs = walk::pairs(disk, place);
+            if ours.pairs(disk, place.0, place.1, report) != given(&flat(&pairs)) {
+                return Err(format!("list {place:?}: the pairs are not by the rule"));
+            }
+            if !pairs.into_iter().all(walk::on_disk) {
+                return Err(format!("list {place:?}: a pair is off the disk, ours 0"));
+            }
+        }
+        if ours.file(disk, k as u64, report) != given(&by_rule(disk, first, e[2])) {
+            return Err(format!("entry {k}: the bytes are not by the rule"));
+        }
+    }
+    Ok(())
+}
+
+fn given(bytes: &[u8]) -> Answer {
+    Answer {
+        number: 0,
+        bytes: bytes.to_vec(),
+    }
+}
+
+fn flat(places: &[Place]) -> Vec<u8> {
+    places.iter().flat_map(|p| [p.0, p.1]).collect()
+}
+
+fn beside(
+    disk: &[u8],
+    mine: &Mine,
+    random: &mut Random,
+    worker: &mut Worker,
+    ours: &mut Ours,
+    report: &mut Report,
+) {
+    let differ = |report: &Report, text: String| -> ! { report.difference("load", disk, text) };
+    let Mine {
+        whole,
+        table,
+        catalog,
+    } = mine;
+    let whole = *whole;
+    report.compared("apple_disk_parser");
 
     let ring = disk.len() >= SIZE && holds_ring(disk);
     let mut theirs = worker.load(disk, if ring { SHORT } else { LONG });
@@ -100,10 +179,7 @@ pub fn compare(
                 if whole == 0 {
                     for k in 0..catalog.bytes.len() / 37 {
                         let e = &catalog.bytes[37 * k..37 * k + 37];
-                        let expected = Answer {
-                            number: 0,
-                            bytes: by_rule(disk, (e[0], e[1]), e[2]),
-                        };
+                        let expected = given(&by_rule(disk, (e[0], e[1]), e[2]));
                         if ours.file(disk, k as u64, report) != expected {
                             differ(report, format!("entry {k} is not by the length rule"));
                         }
@@ -160,10 +236,6 @@ fn loaded(
     ours: &mut Ours,
     report: &mut Report,
 ) -> Result<(), String> {
-    let given = |bytes: &[u8]| Answer {
-        number: 0,
-        bytes: bytes.to_vec(),
-    };
     let count = load.files.len();
 
     // By name: the last entry's bytes.
@@ -254,50 +326,15 @@ fn shown(entries: &[u8], k: usize) -> &[u8] {
     &e[5..5 + e[4] as usize]
 }
 
-fn on_disk(place: Place) -> bool {
-    place.0 <= 34 && place.1 <= 15
-}
-
-// The places of the pages and of each live entry's list, as far as links lead; whether one leads back.
-fn pages(disk: &[u8]) -> (Vec<Place>, bool) {
-    let mut seen = HashSet::new();
-    let mut all = Vec::new();
-    let mut place = (17, disk[start((17, 0)) + 2]);
-    while on_disk(place) {
-        if !seen.insert(place) {
-            return (all, true);
-        }
-        all.push(place);
-        let at = start(place);
-        place = (disk[at + 1], disk[at + 2]);
-        if place.0 == 0 || place.1 == 0 {
-            break;
-        }
-    }
-    (all, false)
-}
-
-fn chains(disk: &[u8]) -> Vec<Place> {
-    let mut all = Vec::new();
-    for page in pages(disk).0 {
-        for slot in 0..7 {
-            let at = start(page) + 11 + 35 * slot;
-            if disk[at] != 0 && disk[at] != 0xFF {
-                all.push((disk[at], disk[at + 1]));
-            }
-        }
-    }
-    all
-}
-
 fn holds_ring(disk: &[u8]) -> bool {
-    pages(disk).1 || chains(disk).into_iter().any(|first| follow(disk, first).1)
+    let ring = |first| walk::lists(disk, first).ring;
+    walk::pages(disk).ring || walk::first_lists(disk).into_iter().any(ring)
 }
 
 // A link to sector 0 of a track off the disk.
 fn holds_far_cut(disk: &[u8]) -> bool {
-    chains(disk).into_iter().any(|first| {
-        let end = follow(disk, first).0;
+    walk::first_lists(disk).into_iter().any(|first| {
+        let end = walk::lists(disk, first).end;
         end != first && end.0 > 34 && end.1 == 0
     })
 }
@@ -305,17 +342,11 @@ fn holds_far_cut(disk: &[u8]) -> bool {
 // A file's bytes by the rule of document 01, on a disk with no number.
 fn by_rule(disk: &[u8], first: Place, kind: u8) -> Vec<u8> {
     let mut data = Vec::new();
-    let mut place = first;
-    while place.0 != 0 {
-        let list = start(place);
-        for pair in disk[list + 12..list + 254]
-            .chunks(2)
-            .take_while(|pair| pair[0] != 0)
-        {
-            let at = start((pair[0], pair[1]));
+    for list in walk::lists(disk, first).places {
+        for pair in walk::pairs(disk, list) {
+            let at = start(pair);
             data.extend(&disk[at..at + 256]);
         }
-        place = (disk[list + 1], disk[list + 2]);
     }
     if kind != 4 || data.is_empty() {
         return Vec::new();
@@ -325,21 +356,4 @@ fn by_rule(disk: &[u8], first: Place, kind: u8) -> Vec<u8> {
         data = data[4..4 + length].to_vec();
     }
     data
-}
-
-// Where a chain of lists ends, and whether it leads back.
-fn follow(disk: &[u8], first: Place) -> (Place, bool) {
-    let mut seen = HashSet::new();
-    let mut place = first;
-    while on_disk(place) {
-        if !seen.insert(place) {
-            return (place, true);
-        }
-        let at = start(place);
-        place = (disk[at + 1], disk[at + 2]);
-        if place.0 == 0 || place.1 == 0 {
-            break;
-        }
-    }
-    (place, false)
 }

@@ -16,6 +16,7 @@ mod report;
 mod shims;
 mod streams;
 mod thirteen;
+mod walk;
 mod worker;
 
 include!(concat!(env!("OUT_DIR"), "/modules.rs"));
@@ -69,8 +70,15 @@ fn main() {
             let mut ours = ours::Ours::new(1);
             if what == "--load" {
                 let mut worker = worker::Worker::start();
-                load::compare(&bytes, random, &mut worker, &mut ours, &mut report);
+                let compared = load::compare(&bytes, random, &mut worker, &mut ours, &mut report);
                 worker.stop();
+                if !compared {
+                    eprintln!(
+                        "{file}: not compared. image-rider reads {} pairs of a list, and a list of this disk has more",
+                        walk::RUST_PAIRS
+                    );
+                    std::process::exit(2);
+                }
             } else {
                 streams::compare(&bytes, random, &config, &mut ours, &mut report);
             }
@@ -94,6 +102,7 @@ fn main() {
     let mut worker = worker::Worker::start();
     report.case = "a small input".to_string();
     fixed::run(&mut worker, &config, &mut ours, &mut report);
+    let before = report.number_left_out();
     for case in 0..count {
         let random = &mut random::Random::new(seed.wrapping_mul(0x1_0000_0001).wrapping_add(case));
         report.case = format!("seed {seed}, case {case}");
@@ -111,5 +120,11 @@ fn main() {
     }
     worker.stop();
     report.print();
+    // Some of the generated disks are left out, and not most of them.
+    let left_out = report.number_left_out() - before;
+    if count >= 100 && (left_out == 0 || left_out > count / 2) {
+        println!("{left_out} of {count} generated disks left out: that cannot be");
+        std::process::exit(1);
+    }
     println!("no unexplained difference");
 }

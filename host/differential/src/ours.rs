@@ -1,8 +1,9 @@
 // The functions of crates/host, called so that what they do to lent space is checked at each call.
-use dos33::TrackSectorPair;
+use dos33::{TrackSectorPair, LIST_PAIRS};
 
 use crate::random::Random;
 use crate::report::Report;
+use crate::walk;
 
 mod raw {
     extern "C" {
@@ -281,34 +282,42 @@ impl Ours {
 
     // Also in a run of structs, which must be the same pairs.
     pub fn pairs(&mut self, disk: &[u8], track: u8, sector: u8, report: &mut Report) -> Answer {
-        let answer = self.handed("dos33_pairs", 242, disk, report, &|p, n, l| unsafe {
-            raw::dos33_pairs(disk.as_ptr(), disk.len(), track, sector, p, n, l)
-        });
+        let answer = self.handed(
+            "dos33_pairs",
+            2 * LIST_PAIRS,
+            disk,
+            report,
+            &|p, n, l| unsafe {
+                raw::dos33_pairs(disk.as_ptr(), disk.len(), track, sector, p, n, l)
+            },
+        );
         let need = answer.bytes.len() / 2;
         for room in [
             need + self.random.below(40),
             need,
             need.saturating_sub(1),
-            self.random.below(122),
+            self.random.below(LIST_PAIRS + 1),
         ] {
             self.pair_run(disk, (track, sector), room, &answer, report);
         }
         answer
     }
 
-    // Any location, on the disk or not: 1, 3, or what the sector has as a list.
+    // Any location, on the disk or not: 1, 3, or what the sector has as a list. image-rider is not asked.
     pub fn pairs_somewhere(&mut self, disk: &[u8], report: &mut Report) {
         let (track, sector) = (self.random.below(38) as u8, self.random.below(18) as u8);
-        let number = self.pairs(disk, track, sector, report).number;
-        let due = match (disk.len(), track, sector) {
-            (143_360, 0..=34, 0..=15) => 0,
-            (143_360, ..) => 3,
-            _ => 1,
+        let answer = self.pairs(disk, track, sector, report);
+        let (number, pairs) = match (disk.len(), track, sector) {
+            (143_360, 0..=34, 0..=15) => (0, walk::pairs(disk, (track, sector))),
+            (143_360, ..) => (3, Vec::new()),
+            _ => (1, Vec::new()),
         };
-        if number != due {
-            report.difference("dos33_pairs", disk, format!("{track}/{sector}: {number}"));
+        let bytes = pairs.iter().flat_map(|p| [p.0, p.1]);
+        if answer.number != number || !answer.bytes.iter().copied().eq(bytes) {
+            let text = format!("{track}/{sector}: {}", answer.number);
+            report.difference("dos33_pairs", disk, text);
         }
-        report.compared("pairs as bytes and in a run, at any location");
+        report.compared("pairs as bytes and in a run, at any location, by the rule");
     }
 
     // The run with room for so many pairs: those of `pairs`, or its number, or 12; and what lies past them is as it was.

@@ -15,6 +15,7 @@ use crate::panics::caught;
 use crate::records::{kind_of, plain};
 use crate::serialize::Serializer;
 use crate::streams;
+use crate::walk;
 use crate::worker::{Load, Theirs, Worker};
 
 const LIMIT: Duration = Duration::from_secs(60);
@@ -166,6 +167,9 @@ fn answer_line(answer: Result<&[u8], u8>, text: &mut String) {
 fn load(disk: &[u8], worker: &mut Worker, text: &mut String) -> Result<(), String> {
     if disk.len() != SIZE {
         return Err("not compared at this size".into());
+    }
+    if walk::holds_full_list(disk) {
+        return Err("a list has more pairs than image-rider reads".into());
     }
     let number = match worker.load(disk, LIMIT) {
         Theirs::Late => return Err("image-rider does not return".into()),

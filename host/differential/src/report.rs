@@ -1,6 +1,8 @@
 // What was compared, how often each number occurred, and the end at a difference.
 use std::collections::BTreeMap;
 
+use crate::walk::RUST_PAIRS;
+
 #[derive(Default)]
 pub struct Report {
     // The case that is run, to say where a difference was met.
@@ -8,6 +10,7 @@ pub struct Report {
     compared: BTreeMap<&'static str, u64>,
     numbers: BTreeMap<(&'static str, u8), u64>,
     explained: BTreeMap<&'static str, u64>,
+    left_out: u64,
 }
 
 impl Report {
@@ -21,6 +24,15 @@ impl Report {
 
     pub fn explained(&mut self, what: &'static str) {
         *self.explained.entry(what).or_default() += 1;
+    }
+
+    // A flat disk with a list of more pairs than image-rider reads.
+    pub fn left_out(&mut self) {
+        self.left_out += 1;
+    }
+
+    pub fn number_left_out(&self) -> u64 {
+        self.left_out
     }
 
     // Saves the input and ends.
@@ -39,6 +51,11 @@ impl Report {
         for (what, n) in &self.compared {
             println!("  {n:>9}  {what}");
         }
+        println!("Left out:");
+        println!(
+            "  {:>9}  flat disks with a list of more than the {RUST_PAIRS} pairs that image-rider reads",
+            self.left_out
+        );
         println!("Explained differences met:");
         for (what, n) in &self.explained {
             println!("  {n:>9}  {what}");

@@ -3,6 +3,8 @@
 
 pub mod five_three;
 
+use dos33::LIST_PAIRS;
+
 pub const SIZE: usize = 143_360;
 pub const SIZE_13: usize = 116_480;
 
@@ -124,6 +126,9 @@ pub fn record(
     d[e + 33..e + 35].copy_from_slice(&count.to_le_bytes());
 }
 
+/// The pairs of the lists of `large`: two full ones, and the rest.
+pub const LARGE: [usize; 3] = [LIST_PAIRS, LIST_PAIRS, 257 - 2 * LIST_PAIRS];
+
 /// A disk whose `files` entries are each 65,535 bytes: 257 pairs that all name sector 1/0.
 pub fn large(files: usize) -> Vec<u8> {
     let mut d = vec![0u8; SIZE];
@@ -140,7 +145,7 @@ pub fn large(files: usize) -> Vec<u8> {
             d[before + 2] = page as u8;
         }
     }
-    for (list, pairs) in [(1usize, 121usize), (2, 121), (3, 15)] {
+    for (list, pairs) in (1..4).zip(LARGE) {
         let l = at(20, list);
         if list < 3 {
             d[l + 1] = 20;
