@@ -75,9 +75,6 @@ module _ (n : ℕ) (d : List ℕ) (p : Place) where
     pub pairing-full : maxPairs ≤ i → record { count = i; good = good } ≡ runOf n d p
     pairing-full h = ends (none-behind i h)
 
-    pub pairing-few : i ≤ maxPairs
-    pairing-few = c .count
-
     pub pairing-more : i < maxPairs → (q : Place) → q ≡ pairAt n d p i → (q .track .0 ≡ 0 → ⊥) → (b : Bool) → b ≡ onDisk n q → Pairing (i + 1) (good && b)
     unfolding all
     pairing-more h q e z b w =
@@ -88,7 +85,7 @@ module _ (n : ℕ) (d : List ℕ) (p : Place) where
           on = c .on ∙ rw (k, ← w) (and-assoc good b (all (onDisk n) (behind (i + 1))));
         }
 
-pub ruleset pairings = (pair-is, pairing-none, pairing-stop, pairing-full, pairing-few, pairing-more, needs)
+pub ruleset pairings = (pair-is, pairing-none, needs)
 
 -- ---- the first pair
 module _ (n : ℕ) (d : List ℕ) (p : Place) (q : Place) (e : q ≡ pairAt n d p 0) where

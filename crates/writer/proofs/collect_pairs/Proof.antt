@@ -1,6 +1,7 @@
-use Rattle.files.proofs.Copying.{Pairs}
+use Rattle.files.proofs.Copying.{Pairs, pairs-stop, pairs-more, pairs-full}
 use Rattle.writer.specs.Passes.{startOf, spot}
 use Prim.Native.Nat.{_-_}
+use native.Mathlib.Omega.{arith}
 use Rattle.files.specs.Contents.{maxPairs}
 use Rattle.writer.proofs.Collects.{collects}
 use Rattle.writer.proofs.collect_pairs.Statement.{statement}
@@ -21,11 +22,11 @@ collect-pairs-spec =
     (λ c. search collects)  -- loop-holds
     (λ c κs. search collects)  -- parse-track-sector-pair-requires
     (λ c. search collects)  -- same-length
-    (λ c. search collects)  -- returns
+    (λ c. pairs-stop _ _ _ _ _ _ _ _ _ _ (c .before .before .before .before .loop .inv) (omega (arith, c .before .before .before .loop-test .taken)) _ (c .before .before .parse-track-sector-pair .ensures) (c .if1 .taken))  -- returns
     (λ c κs. search collects)  -- put-start-requires
     (λ c. search collects)  -- add-i
     (λ c. search collects)  -- loop-less
-    (λ c. search collects)  -- loop-again
+    (λ c. pairs-more _ _ _ _ _ _ _ _ _ _ (c .before .before .before .before .before .before .before .before .loop .inv) (omega (arith, c .before .before .before .before .before .before .before .loop-test .taken)) _ (c .before .before .before .before .before .before .parse-track-sector-pair .ensures) (c .before .before .before .before .if1 .left) _ _ (c .before .before .put-start .ensures))  -- loop-again
     (λ c. search collects)  -- same-length-2
-    (λ c. search collects)  -- returns-2
+    (λ c. pairs-full _ _ _ _ _ _ _ _ _ _ (c .before .loop .inv) (omega (arith, c .loop-test .left)))  -- returns-2
     )
