@@ -130,7 +130,8 @@ uint8_t dos33_vtoc(const uint8_t *disk, size_t disk_length,
                    uint64_t *fields, size_t fields_length);
 
 /* The live entries, 37 bytes each: 0 list track, 1 list sector, 2 type, 3 lock, 4 name length,
-   5-34 shown name then zeros, 35-36 sector count (low byte first).
+   5-34 shown name then zeros, 35-36 sector count (low byte first). The first page is where bytes 1
+   and 2 of the VTOC say, on any track: the first two numbers of dos33_vtoc.
    1, 2, then page by page 3, 4, 6; 12. */
 uint8_t dos33_catalog(const uint8_t *disk, size_t disk_length,
                       uint8_t *out, size_t out_length, uint64_t *length);

@@ -6,20 +6,21 @@ HERE = os.path.dirname(os.path.abspath(__file__))
 PAIRS = 122  # pairs that DOS writes to one list
 
 
-# A disk of 35 tracks by 16 sectors (DOS 3.3), or by 13 (DOS 3.2).
+# A disk of 35 tracks by 16 sectors (DOS 3.3), or by 13 (DOS 3.2). Its catalog is on track 17, or on another.
 class Disk:
-    def __init__(self, volume, pages, first_free=3, per=16):
+    def __init__(self, volume, pages, first_free=3, per=16, catalog=17):
         self.per = per
+        self.catalog = catalog
         self.d = bytearray(35 * per * 256)
         v = self.vtoc = 17 * per * 256
-        self.d[v + 1], self.d[v + 2], self.d[v + 3], self.d[v + 6] = 17, per - 1, 3 if per == 16 else 2, volume
+        self.d[v + 1], self.d[v + 2], self.d[v + 3], self.d[v + 6] = catalog, per - 1, 3 if per == 16 else 2, volume
         self.d[v + 39], self.d[v + 48], self.d[v + 49] = 122, 18, 1
         self.d[v + 52], self.d[v + 53], self.d[v + 55] = 35, per, 1
         for t in range(first_free, 35):
             for s in range(per):
                 self.map(t, s, True)
         self.map(17, 0, False)
-        self.pages = [(17, per - 1 - k) for k in range(pages)]
+        self.pages = [(catalog, per - 1 - k) for k in range(pages)]
         for k, p in enumerate(self.pages):
             self.map(*p, False)
             if k + 1 < pages:
@@ -47,9 +48,12 @@ class Disk:
     def link(self, p, q):
         self.put(p, 1, bytes(q))
 
-    # The next free sector, as DOS takes them: from the catalog outwards, the highest sector of a track first. A list does not stand on a sector 0.
+    # The next free sector, as DOS takes them: from track 17 outwards, the highest sector of a track first, none of the catalog's track.
+    # A list does not stand on a sector 0.
     def take(self, for_list=False):
         for t in list(range(18, 35)) + list(range(16, 2, -1)):
+            if t == self.catalog:
+                continue
             for s in range(self.per - 1, 0 if for_list else -1, -1):
                 if self.is_free(t, s):
                     self.map(t, s, False)
@@ -59,10 +63,7 @@ class Disk:
     # The next entry: 30 bytes of name, with the high bit set if plain is false.
     def entry(self, name, kind, first, count, locked=False, plain=False):
         page = self.pages[self.entries // 7]
-        raw = name.encode('latin-1').ljust(30)
-        raw = raw if plain else bytes(b | 0x80 for b in raw)
-        head = bytes([first[0], first[1], kind | (0x80 if locked else 0)])
-        self.put(page, 11 + 35 * (self.entries % 7), head + raw + count.to_bytes(2, 'little'))
+        self.put(page, 11 + 35 * (self.entries % 7), record(name, kind, first, count, locked, plain))
         self.entries += 1
 
     # An entry that was deleted: list track FFh, the old one in the name's last byte.
@@ -90,6 +91,14 @@ class Disk:
     def write(self, name):
         with open(os.path.join(HERE, name), 'wb') as f:
             f.write(self.d)
+
+
+# The 35 bytes of an entry.
+def record(name, kind, first, count, locked=False, plain=False):
+    raw = name.encode('latin-1').ljust(30)
+    raw = raw if plain else bytes(b | 0x80 for b in raw)
+    head = bytes([first[0], first[1], kind | (0x80 if locked else 0)])
+    return head + raw + count.to_bytes(2, 'little')
 
 
 # The bytes of a line: for each ring of the tunnel its number, and where its centre lies, in millimetres, three bytes each.
@@ -200,8 +209,8 @@ def last_pair():
 
 
 # The same files on a disk of 13 sectors a track and on one of 16.
-def two_editions(per):
-    d = Disk(32, 2, per=per)
+def two_editions(per, catalog=17):
+    d = Disk(32, 2, per=per, catalog=catalog)
     d.file('HELLO', 1, bytes(range(200)), locked=True)
     d.file('LINE 2 RING 1', 4, binary(line(31, 700)), locked=True)
     d.file('LINE 2 RINGS 2 TO 2603', 4, binary(line(32, 31232)))
@@ -211,6 +220,13 @@ def two_editions(per):
     d.file('LINE 2 SHAFTS', 4, binary(line(34, 1400)))
     d.file('LINE 2 PORTALS', 4, binary(line(35, 96)))
     d.file('LINE 2 CROSSOVERS', 4, binary(line(36, 2000)), locked=True, pairs=5)
+    return d
+
+
+# The same files once more, with the catalog on track 11. On track 17 an old page is left, which nothing leads to.
+def moved_catalog():
+    d = two_editions(16, catalog=11)
+    d.put((17, 15), 11, record('LINE 2 BEFORE THE MOVE', 4, (18, 15), 2))
     return d
 
 
@@ -299,6 +315,7 @@ def main():
         f.write(nibbles(one_page().d))
     two_editions(13).write('thirteen.dsk')
     two_editions(16).write('same-files.dsk')
+    moved_catalog().write('moved-catalog.dsk')
     with open(os.path.join(HERE, 'thirteen.nib'), 'wb') as f:
         f.write(nibbles_13(two_editions(13).d))
 

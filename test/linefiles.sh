@@ -144,7 +144,6 @@ damaged pair-off.dsk one-page.dsk "$(at 26 15 14)" 18 10
 same list-pair-off list pair-off.dsk
 damaged link-bytes.dsk one-page.dsk "$(at 17 15 1)" 00 07
 patch link-bytes.dsk "$(at 18 15 2)" 09
-patch link-bytes.dsk "$(at 17 0 1)" 12
 same list-link-bytes list link-bytes.dsk
 
 # survey and map
@@ -478,6 +477,98 @@ same one-of-both-16 check half-16.nib outs/13.arc
 same one-of-both-13 survey half-16.nib --13
 cat <(head -c 832 samples/one-page.nib) absent.nib >none-of-both.nib
 same none-of-both list none-of-both.nib
+
+# the catalog off track 17: the files of same-files.dsk, and on track 17 a page that nothing leads to
+same list-moved list samples/moved-catalog.dsk
+holds list-moved-plain plain out
+sed 1d out >listed-moved
+holds list-moved-files diff <(sed -n '/^Files/,$p' listed-same) <(sed -n '/^Files/,$p' listed-moved)
+run survey samples/same-files.dsk
+cp out surveyed
+same survey-moved survey samples/moved-catalog.dsk
+holds survey-moved-equal diff <(sed 1d surveyed) <(sed 1d out)
+same map-moved map samples/moved-catalog.dsk
+holds map-moved-560 test "$(counted out)" = 560
+same get-moved get samples/moved-catalog.dsk 'LINE 2 RINGS 2 TO 2603' outs/moved-rings
+holds get-moved-sum sum_is outs/moved-rings 56dcb95005672fc47ed92dec45e3e033a8fffd68f5609de0e8d0e588f4abb60d
+same get-moved-before get samples/moved-catalog.dsk 'LINE 2 BEFORE THE MOVE' outs/none
+same archive-moved archive samples/moved-catalog.dsk outs/moved.arc
+holds archive-moved-equal cmp outs/13.arc outs/moved.arc
+same check-moved check samples/moved-catalog.dsk outs/13.arc
+same check-moved-thirteen check samples/thirteen.nib outs/moved.arc
+same nibblize-moved nibblize samples/moved-catalog.dsk outs/moved.nib
+same list-moved-nibbles list outs/moved.nib
+holds list-moved-nibbles-equal diff listed-moved <(sed 1d out)
+same check-moved-nibbles check outs/moved.nib outs/13.arc
+
+# sector_to FROM SECTOR FILE SECTOR: one sector of a disk into another disk; the sectors are numbers from the disk's start.
+sector_to() { dd if="$1" of="$3" bs=256 skip="$2" seek="$4" count=1 conv=notrunc status=none; }
+
+# moved FILE FROM TRACK SECTOR: a copy of a sample with its first page, 17/15, at another place, and zeros where it was.
+moved() {
+    damaged "$1" "$2" "$(at 17 0 1)" "$(printf %02x "$3")" "$(printf %02x "$4")"
+    sector_to "samples/$2" $((16 * 17 + 15)) "$1" $((16 * $3 + $4))
+    sector_to /dev/zero 0 "$1" $((16 * 17 + 15))
+}
+
+# on track 1, at the last track's sector 0, and on track 0, which no page's link can name: the same files
+run list samples/one-page.dsk
+sed -n '/^Files/,$p' out >files-one
+for place in '1 15' '34 0' '0 9' '0 0'; do
+    read -r track sector <<<"$place"
+    moved moved.dsk one-page.dsk "$track" "$sector"
+    same "list-moved-$track-$sector" list moved.dsk
+    holds "list-moved-$track-$sector-files" diff files-one <(sed -n '/^Files/,$p' out)
+done
+same map-moved-0 map moved.dsk
+moved moved.dsk several-pages.dsk 0 3
+same list-moved-several list moved.dsk
+
+# off the disk: 3, whatever stands on track 17; but no table comes first
+damaged off.dsk one-page.dsk "$(at 17 0 1)" 23
+same list-moved-35 list off.dsk
+same map-moved-35 map off.dsk
+same get-moved-35 get off.dsk 'LINE 7 STATIONS' outs/none
+same check-moved-35 check off.dsk outs/13.arc
+patch off.dsk "$(at 17 0 1)" ff
+same list-moved-255 list off.dsk
+cat out err >said
+patch off.dsk "$(at 17 15 20)" 80
+run list off.dsk
+holds list-moved-255-letter diff said <(cat out err)
+patch off.dsk "$(at 17 0 1)" 10 10
+same list-moved-16-16 list off.dsk
+patch off.dsk "$(at 17 0 52)" 24
+same list-moved-no-table list off.dsk
+holds moved-nothing-left not test -e outs/none
+
+# a page off track 17 in a ring, with a bad letter, and with a link off the disk
+moved ring.dsk several-pages.dsk 1 3
+patch ring.dsk "$(at 17 13 1)" 01 03
+same list-moved-ring list ring.dsk
+moved bad-letter.dsk several-pages.dsk 0 0
+patch bad-letter.dsk "$(at 0 0 $((11 + 35 + 3)))" 80
+same list-moved-bad-letter list bad-letter.dsk
+moved page-off.dsk several-pages.dsk 34 15
+patch page-off.dsk "$(at 34 15 1)" 22 10
+same list-moved-page-off list page-off.dsk
+
+# the VTOC itself as the first page
+damaged vtoc-first.dsk one-page.dsk "$(at 17 0 2)" 00
+same list-vtoc-first list vtoc-first.dsk
+same map-vtoc-first map vtoc-first.dsk
+
+# the same with 13 sectors a track: a page at 5/3; a sector above 12
+damaged moved.dsk thirteen.dsk "$(at_13 17 0 1)" 05 03
+sector_to samples/thirteen.dsk $((13 * 17 + 12)) moved.dsk $((13 * 5 + 3))
+sector_to /dev/zero 0 moved.dsk $((13 * 17 + 12))
+same list-thirteen-moved list moved.dsk
+holds list-thirteen-moved-files diff <(sed -n '/^Files/,$p' listed) <(sed -n '/^Files/,$p' out)
+same check-thirteen-moved check moved.dsk outs/moved.arc
+patch moved.dsk "$(at_13 17 0 2)" 0d
+same list-thirteen-moved-off list moved.dsk
+patch moved.dsk "$(at_13 17 0 1)" 23 03
+same list-thirteen-moved-35 list moved.dsk
 
 # the options for streams
 same option-both list samples/thirteen.nib --13 --16

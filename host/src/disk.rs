@@ -23,7 +23,7 @@ const ARCHIVE_MOST: usize = 256 * 4096;
 /// // An empty disk of volume 254.
 /// let mut bytes = vec![0; dos33::DISK_SIZE];
 /// let vtoc = 17 * 4096;
-/// bytes[vtoc + 2] = 15;
+/// bytes[vtoc + 1..][..2].copy_from_slice(&[17, 15]); // first catalog page
 /// bytes[vtoc + 6] = 254;
 /// bytes[vtoc + 52] = 35;
 /// bytes[vtoc + 53] = 16;
@@ -107,7 +107,8 @@ impl<'a> Disk<'a> {
         }
     }
 
-    /// The live entries of the catalog, in order.
+    /// The live entries of the catalog, in order. Its first page is where the VTOC says
+    /// ([`Vtoc::catalog`]), on any track.
     ///
     /// # Errors
     /// 1, 2, then page by page 3, 4, 6.
@@ -147,7 +148,7 @@ impl<'a> Disk<'a> {
     /// // Two Binary files. Each has its list in sector 0 of a track, and its bytes in sector 1.
     /// let mut bytes = vec![0; dos33::DISK_SIZE];
     /// let at = |track: usize, sector: usize| 4096 * track + 256 * sector;
-    /// bytes[at(17, 0) + 2] = 15;
+    /// bytes[at(17, 0) + 1..][..2].copy_from_slice(&[17, 15]);
     /// bytes[at(17, 0) + 52] = 35;
     /// bytes[at(17, 0) + 53] = 16;
     /// let record = |track: u8, name| EntryRecord {

@@ -10,7 +10,7 @@
 //! // A disk with one Binary file: its list at 18/0, its only sector at 18/1.
 //! let mut bytes = vec![0; dos33::DISK_SIZE];
 //! let at = |track: usize, sector: usize| 4096 * track + 256 * sector;
-//! bytes[at(17, 0) + 2] = 15; // first catalog page
+//! bytes[at(17, 0) + 1..][..2].copy_from_slice(&[17, 15]); // first catalog page
 //! bytes[at(17, 0) + 52] = 35;
 //! bytes[at(17, 0) + 53] = 16;
 //! let list = Location::new(Track(18), Sector(0));

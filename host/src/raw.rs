@@ -44,7 +44,8 @@ extern "C" {
     ) -> u8;
 
     /// The catalog, 37 bytes an entry: 0 list track, 1 list sector, 2 type, 3 lock, 4 name length, 5-34
-    /// shown name then zeros, 35-36 sector count. Refusals 1, 2, pages (3, 4, 6), 12.
+    /// shown name then zeros, 35-36 sector count. The first page is where bytes 1 and 2 of the VTOC say, on
+    /// any track. Refusals 1, 2, pages (3, 4, 6), 12.
     pub fn dos33_catalog(
         disk: *const u8,
         disk_length: usize,

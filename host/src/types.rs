@@ -205,7 +205,8 @@ pub struct File {
 /// The volume table of contents.
 #[derive(Clone, Copy, Debug, PartialEq, Eq, Hash)]
 pub struct Vtoc {
-    /// First catalog page, as stated. The catalog is read from track 17, whatever the track here.
+    /// First catalog page: the catalog is read from here, on whatever track. One that is not on the disk is
+    /// shown all the same; the calls that read the catalog refuse it as 3.
     pub catalog: Location,
     /// DOS release.
     pub release: u8,

@@ -99,7 +99,7 @@ fn lengths_around_the_limits() {
     ] {
         let mut d = vec![0u8; common::SIZE];
         let v = at(17, 0);
-        d[v + 2] = 15;
+        d[v + 1..v + 3].copy_from_slice(&[17, 15]);
         d[v + 52] = 35;
         d[v + 53] = 16;
         for (k, n) in lengths.into_iter().enumerate() {

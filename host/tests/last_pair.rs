@@ -30,7 +30,7 @@ fn at(per: usize, (track, sector): (u8, u8)) -> usize {
 fn long(per: usize, lists: &[List]) -> Vec<u8> {
     let mut d = vec![0; 256 * TRACKS * per];
     let vtoc = at(per, (17, 0));
-    d[vtoc + 2] = 2;
+    d[vtoc + 1..vtoc + 3].copy_from_slice(&[17, 2]);
     d[vtoc + 6] = 254;
     d[vtoc + 52] = TRACKS as u8;
     d[vtoc + 53] = per as u8;

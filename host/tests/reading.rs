@@ -191,7 +191,7 @@ fn the_largest_catalog_and_the_longest_chain() {
     }
     // The catalog call does not follow the entries' lists.
     let v = at(17, 0);
-    d[v + 2] = 1;
+    d[v + 1..v + 3].copy_from_slice(&[17, 1]);
     d[v + 52] = 40;
     d[v + 53] = 13;
     let c = Disk::flat(&d).catalog().unwrap();
@@ -207,7 +207,7 @@ fn the_largest_catalog_and_the_longest_chain() {
         d[at(t, s) + 1] = u as u8;
         d[at(t, s) + 2] = r as u8;
     }
-    d[v + 2] = 15;
+    d[v + 1..v + 3].copy_from_slice(&[17, 15]);
     d[v + 52] = 35;
     d[v + 53] = 16;
     common::entry(&mut d, 17, 15, 0, (1, 1), 4, "LONG", 509);

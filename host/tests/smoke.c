@@ -52,6 +52,7 @@ int main(void) {
     for (k = 0; k < sizeof data; k++) data[k] = (uint8_t)(7 * k);
 
     /* Record writers make the disk. */
+    at(17, 0)[1] = 17;
     at(17, 0)[2] = 15;
     at(17, 0)[6] = 254;
     at(17, 0)[52] = 35;
@@ -147,6 +148,26 @@ int main(void) {
     EXPECT(dos33_archive_entry(archive, blocks, 2, f, DOS33_STEP_FIELDS) == 0 && f[0] == 0);
     archive[600] ^= 1;
     EXPECT(dos33_archive_check(disk, sizeof disk, archive, blocks) == DOS33_NOT_ITS_RETURN);
+    archive[600] ^= 1;
+
+    /* The catalog on another track: the first page at 0/9, where bytes 1 and 2 of the VTOC say. */
+    memcpy(at(0, 9), at(17, 15), 256);
+    memset(at(17, 15), 0, 256);
+    at(17, 0)[1] = 0;
+    at(17, 0)[2] = 9;
+    EXPECT(dos33_vtoc(disk, sizeof disk, f, DOS33_VTOC_FIELDS) == 0 && f[0] == 0 && f[1] == 9);
+    EXPECT(dos33_catalog(disk, sizeof disk, out, sizeof out, &n) == 0 && n == 37);
+    EXPECT(dos33_fetch(disk, sizeof disk, name, 4, out, sizeof out, &n) == 0 && n == 300);
+    EXPECT(dos33_archive_check(disk, sizeof disk, archive, blocks) == 0);
+    at(17, 0)[1] = 35;
+    EXPECT(dos33_vtoc(disk, sizeof disk, f, DOS33_VTOC_FIELDS) == 0 && f[0] == 35);
+    EXPECT(dos33_catalog(disk, sizeof disk, out, sizeof out, &n) == DOS33_OFF_DISC);
+    EXPECT(dos33_archive_check(disk, sizeof disk, archive, blocks) == DOS33_OFF_DISC);
+    memcpy(at(17, 15), at(0, 9), 256);
+    memset(at(0, 9), 0, 256);
+    at(17, 0)[1] = 17;
+    at(17, 0)[2] = 15;
+    EXPECT(dos33_archive_check(disk, sizeof disk, archive, blocks) == 0);
 
     /* 13 sectors a track: sector 12 of track 17 ends in FFh. */
     size = thirteen();

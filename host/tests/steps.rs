@@ -75,7 +75,7 @@ fn along(archive: &[u8]) -> usize {
 fn texts(files: usize) -> Vec<u8> {
     let mut d = vec![0u8; common::SIZE];
     let v = common::at(17, 0);
-    d[v + 2] = 15;
+    d[v + 1..v + 3].copy_from_slice(&[17, 15]);
     d[v + 6] = 7;
     d[v + 52] = 35;
     d[v + 53] = 16;

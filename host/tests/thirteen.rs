@@ -731,7 +731,7 @@ fn the_largest_catalog_and_the_longest_chain() {
         }
     }
     let v = at_13(17, 0);
-    d[v + 2] = 1;
+    d[v + 1..v + 3].copy_from_slice(&[17, 1]);
     d[v + 52] = 40;
     d[v + 53] = 13;
     assert_eq!(Disk::flat(&d).catalog().unwrap().len(), 7 * 34 * 12);
@@ -742,7 +742,7 @@ fn the_largest_catalog_and_the_longest_chain() {
         d[at_13(t, s) + 1] = u as u8;
         d[at_13(t, s) + 2] = r as u8;
     }
-    d[v + 2] = 12;
+    d[v + 1..v + 3].copy_from_slice(&[17, 12]);
     d[v + 52] = 35;
     d[v + 53] = 13;
     common::record(&mut d, at_13(17, 12), 0, (1, 1), 4, "LONG", 407);
@@ -822,7 +822,7 @@ fn laid_out(per: usize, files: &[Made], dice: &mut Dice) -> Vec<u8> {
         free.swap(k, dice.roll(k + 1));
     }
     let v = start(t);
-    d[v + 2] = first as u8;
+    d[v + 1..v + 3].copy_from_slice(&[17, first as u8]);
     d[v + 6] = 42;
     d[v + 52] = 35;
     d[v + 53] = per as u8;

@@ -103,10 +103,6 @@ letter-high b h = rw (lt-ltb 128 b h) refl
 pub letter-low : (b : ℕ) → b ≤ 128 → b ≡ letter b
 letter-low b h = rw (le-ltb 128 b h) refl
 
--- the first page
-pub first-is : (n : ℕ) (d : List ℕ) (s : ℕ) → s ≡ byteOf n d vtoc 2 → place 17 s ≡ firstPage n d
-first-is n d s e = rw e refl
-
 -- an entry from x on, as code reads it: t is its track, and b whether it is live
 module _ (d : List ℕ) (x t : ℕ) (b : Bool) (e : t ≡ getD d x 0) (v : b ≡ validFile t) where
   pub plain-live : b ≡ true → (w : Bool) → w ≡ among 128 (take 30 (drop (x + 3) d)) → not w ≡ plainEntry (entryFrom d x)
@@ -123,7 +119,7 @@ module _ (d : List ℕ) (x t : ℕ) (b : Bool) (e : t ≡ getD d x 0) (v : b ≡
   pub live-none : b ≡ false → _≡_ {A = ℕ} 0 (cond (live (entryFrom d x)) 1 0)
   live-none z = rw (← e, ← v, z) refl
 
-pub ruleset entries = (valid-unused, valid-deleted, valid-live, plain-live, plain-dead, live-one, live-none, letter-high, letter-low, first-is, kind-known, kind-other, needs)
+pub ruleset entries = (valid-unused, valid-deleted, valid-live, plain-live, plain-dead, live-one, live-none, letter-high, letter-low, kind-known, kind-other, needs)
 
 -- ---- a page's entries
 module _ (n : ℕ) (d : List ℕ) (p : Place) where

@@ -1,4 +1,5 @@
--- The catalog: its pages, and its live entries in chain order (01: the roll). Document 01, "Catalog page" under Records and "Roll" under Modules.
+-- The catalog: its pages, and its live entries in chain order (01: the roll). Document 01, "Catalog page" under Records and "Roll" under Modules;
+-- the first page is document 02's, Req 08.
 use mathlib.Core.Bool.{Bool, true, false, cond, not, _&&_, _||_}
 use mathlib.Core.List.{List, [], _∷_, map, flatMap}
 use mathlib.Core.Option.{Option, none, some}
@@ -93,9 +94,9 @@ module _ (n : ℕ) (d : List ℕ) where
   unfoldable pub nextPage : Place → Option Place
   nextPage p = cond (lastPage p) none (some (linkOf n d p))
 
-  -- the first page: on track 17 whatever VTOC byte 1 holds
+  -- the first page: its track and sector are bytes 1 and 2 of the VTOC
   abbrev pub firstPage : Place
-  firstPage = place 17 (byteOf n d vtoc 2)
+  firstPage = place (byteOf n d vtoc 1) (byteOf n d vtoc 2)
 
   -- the pages: 1, 2, then page by page 3, 4, 6
   unfoldable pub pages : Outcome (List Place)

@@ -234,7 +234,7 @@ fn count_from(disk: &[u8], per: u8, first: Place) -> Pages
     }
 }
 
-// The first page: on track 17, whatever the table says of its track.
+// The first page: its track and sector are bytes 1 and 2 of the table.
 pub fn first_page(disk: &[u8], per: u8) -> Place
     ensures { λ r. ⌜ r ≡ firstPage per (now (disk .entry)) ⌝ }
 {
@@ -242,11 +242,7 @@ pub fn first_page(disk: &[u8], per: u8) -> Place
         track: Track(17),
         sector: Sector(0),
     };
-    let s = byte_of(disk, per, vtoc, 2);
-    Place {
-        track: Track(17),
-        sector: Sector(s),
-    }
+    link_of(disk, per, vtoc)
 }
 
 // The pages and live entries of the catalog of a disk of `per` sectors a track; refusals 1, 2, then page by page 3, 4, 6.

@@ -135,11 +135,6 @@ fn list_links(disk: &[u8], fetch: bool, archive: &[u8]) {
         STDOUT_FILENO,
         catalog::first_page(disk, disk::sectors_of(disk)),
     );
-    if v.track_number_of_first_catalog_sector != 17 {
-        say(b" (it says track ");
-        number(STDOUT_FILENO, v.track_number_of_first_catalog_sector as u64);
-        say(b")");
-    }
     say(b"\n");
     if walk::follow_pages(disk, 0) == 0 {
         say(b"\nFiles\n");

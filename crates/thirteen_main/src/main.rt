@@ -1,6 +1,7 @@
-// Answers of the calls on disks of 13 sectors a track and on streams of both editions (document 02, Req 12), and on lists of 121 and 122 pairs on disks of both
-// (Req 05). Standard input is a script, a line of six bytes in hexadecimal for each step. KK is an edition, 0D or 10: 13 or 16 sectors a track. There are a disk
-// of zeros of each edition, a stream that is empty at first, and an archive at hand that is empty at first. NNNN and AABBDD are numbers, the high byte first.
+// Answers of the calls on disks of 13 sectors a track and on streams of both editions (document 02, Req 12), and on disks of both with lists of 121 and 122 pairs
+// (Req 05) and with the catalog on any track (Req 08). Standard input is a script, a line of six bytes in hexadecimal for each step. KK is an edition, 0D or 10:
+// 13 or 16 sectors a track. There are a disk of zeros of each edition, a stream that is empty at first, and an archive at hand that is empty at first. NNNN and
+// AABBDD are numbers, the high byte first.
 //     00 KK TT SS BB VV    put VV at byte BB of DOS sector SS of track TT of the disk
 //     01 KK TT SS VV 00    put VV, VV + 1, VV + 2 and so on at the bytes of the sector
 //     02 KK 00 00 00 00    a disk of zeros

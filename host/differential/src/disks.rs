@@ -2,7 +2,7 @@
 use dos33::LIST_PAIRS;
 
 use crate::random::Random;
-use crate::walk::{self, RUST_PAIRS};
+use crate::walk::{self, RUST_PAIRS, RUST_TRACK};
 
 pub type Place = (u8, u8);
 
@@ -86,6 +86,9 @@ fn wild(random: &mut Random) -> Vec<u8> {
     let top = random.pick(&[2, 16, 35, 40, 128, 256]);
     let mut disk: Vec<u8> = (0..SIZE).map(|_| random.below(top) as u8).collect();
     let t = start((17, 0));
+    if !random.one_in(4) {
+        disk[t + 1] = RUST_TRACK;
+    }
     disk[t + 2] = random.below(16) as u8;
     disk[t + 52] = 35;
     disk[t + 53] = 16;
@@ -100,8 +103,6 @@ impl Builder<'_> {
 
     fn table(&mut self) {
         let mut v = self.random.bytes(256);
-        v[1] = self.random.pick(&[17, 17, 0, 40, 255]);
-        v[2] = 15;
         v[3] = 3;
         v[6] = self.random.pick(&[254, 1, 0, 255]);
         v[39] = self.random.pick(&[122, 0, 1]);
@@ -120,6 +121,15 @@ impl Builder<'_> {
         (self.random.within(1, 34) as u8, self.random.below(16) as u8)
     }
 
+    // Of one disk in six it may stand anywhere, track 0 and a sector 0 among them.
+    fn first_page(&mut self) -> Place {
+        if self.random.one_in(6) {
+            self.random.pick(&self.free.clone())
+        } else {
+            (RUST_TRACK, self.random.within(1, 15) as u8)
+        }
+    }
+
     fn catalog(&mut self) {
         let n = match self.random.below(48) {
             0..=27 => self.random.within(1, 4),
@@ -127,9 +137,9 @@ impl Builder<'_> {
             44..=46 => self.random.within(17, 120),
             _ => self.random.within(120, 500),
         };
-        let first = (17, self.random.within(1, 15) as u8);
+        let first = self.first_page();
         self.free.retain(|p| *p != first);
-        self.disk[start((17, 0)) + 2] = first.1;
+        self.put((17, 0), 1, &[first.0, first.1]);
         self.pages.push(first);
         while self.pages.len() < n {
             match self.linkable() {
@@ -445,7 +455,11 @@ impl Builder<'_> {
                     .pick(&[0, 12, 13, 14, 15, 16, 17, 34, 35, 36, 39, 40, 41, 255]);
             }
             12 => {
-                self.disk[table + 2] = self.random.pick(&[0, 0, 1, 14, 15, 16, 17, 255]);
+                if self.random.one_in(4) {
+                    self.disk[table + 1] = self.random.pick(&[0, 1, 16, 34, 35, 40, 255]);
+                } else {
+                    self.disk[table + 2] = self.random.pick(&[0, 0, 1, 14, 15, 16, 17, 255]);
+                }
             }
             13 | 14 => {
                 // Bytes of pages and lists.

@@ -5,7 +5,7 @@ use crate::disks::{self, start, Place, SIZE};
 use crate::ours::{Answer, Ours};
 use crate::random::Random;
 use crate::report::Report;
-use crate::walk;
+use crate::walk::{self, LeftOut};
 use crate::worker::{Load, Theirs, Worker};
 
 // How long image-rider has for a disk that holds a ring, and for any other.
@@ -20,25 +20,26 @@ pub fn load(random: &mut Random, worker: &mut Worker, ours: &mut Ours, report: &
     compare(&disk, random, worker, ours, report);
 }
 
-// Compares, unless a list has more pairs than image-rider reads: then ours alone is called. Gives whether it compared.
+// Compares, unless the disk is left out: then ours alone is called. Gives why it was left out.
 pub fn compare(
     disk: &[u8],
     random: &mut Random,
     worker: &mut Worker,
     ours: &mut Ours,
     report: &mut Report,
-) -> bool {
+) -> Option<LeftOut> {
     assert_ne!(disk.len(), disks::SIZE_13, "a disk of 13 sectors a track");
     let mine = mine(disk, random, ours, report);
-    if walk::holds_full_list(disk) {
-        report.left_out();
+    let why = walk::left_out(disk);
+    if let Some(why) = why {
+        report.left_out(why);
         if let Err(text) = left_out(disk, &mine, ours, report) {
             report.difference("load", disk, text);
         }
-        return false;
+    } else {
+        beside(disk, &mine, random, worker, ours, report);
     }
-    beside(disk, &mine, random, worker, ours, report);
-    true
+    why
 }
 
 // The number of the whole disk, and what the calls give that stop before.
@@ -87,8 +88,18 @@ fn mine(disk: &[u8], random: &mut Random, ours: &mut Ours, report: &mut Report) 
     }
 }
 
-// A disk that is not compared: its first entries are by the rule of document 01, with all pairs of a list.
+// A disk that is not compared: its catalog and its first entries are by the rule of the documents, with the first page
+// where the VTOC says and all pairs of a list.
 fn left_out(disk: &[u8], mine: &Mine, ours: &mut Ours, report: &mut Report) -> Result<(), String> {
+    if mine.table.0 == 0 {
+        let due = walk::catalog(disk).map_or_else(refused, |bytes| given(&bytes));
+        if mine.catalog != due {
+            return Err(format!(
+                "the catalog is not by the rule, number {}",
+                due.number
+            ));
+        }
+    }
     if mine.whole != 0 {
         return Ok(());
     }
@@ -118,6 +129,13 @@ fn given(bytes: &[u8]) -> Answer {
     Answer {
         number: 0,
         bytes: bytes.to_vec(),
+    }
+}
+
+fn refused(number: u8) -> Answer {
+    Answer {
+        number,
+        bytes: Vec::new(),
     }
 }
 
@@ -269,10 +287,7 @@ fn loaded(
         let there = load.names.iter().find(|(n, _)| *n == name);
         let expected = match there {
             Some((_, data)) => given(data),
-            None => Answer {
-                number: 18,
-                bytes: Vec::new(),
-            },
+            None => refused(18),
         };
         if ours.fetch(disk, &name, report) != expected {
             return Err(format!("name {name:?}"));

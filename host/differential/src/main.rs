@@ -22,6 +22,7 @@ mod worker;
 include!(concat!(env!("OUT_DIR"), "/modules.rs"));
 
 use crate::config::Configuration;
+use crate::walk::LeftOut;
 
 // image-rider's; its set-up is not published.
 pub fn init() {}
@@ -70,13 +71,10 @@ fn main() {
             let mut ours = ours::Ours::new(1);
             if what == "--load" {
                 let mut worker = worker::Worker::start();
-                let compared = load::compare(&bytes, random, &mut worker, &mut ours, &mut report);
+                let left_out = load::compare(&bytes, random, &mut worker, &mut ours, &mut report);
                 worker.stop();
-                if !compared {
-                    eprintln!(
-                        "{file}: not compared. image-rider reads {} pairs of a list, and a list of this disk has more",
-                        walk::RUST_PAIRS
-                    );
+                if let Some(why) = left_out {
+                    eprintln!("{file}: not compared: {}", why.text());
                     std::process::exit(2);
                 }
             } else {
@@ -102,7 +100,8 @@ fn main() {
     let mut worker = worker::Worker::start();
     report.case = "a small input".to_string();
     fixed::run(&mut worker, &config, &mut ours, &mut report);
-    let before = report.number_left_out();
+    let reasons = [LeftOut::MovedCatalog, LeftOut::FullList];
+    let before = reasons.map(|why| report.number_left_out(why));
     for case in 0..count {
         let random = &mut random::Random::new(seed.wrapping_mul(0x1_0000_0001).wrapping_add(case));
         report.case = format!("seed {seed}, case {case}");
@@ -120,10 +119,11 @@ fn main() {
     }
     worker.stop();
     report.print();
-    // Some of the generated disks are left out, and not most of them.
-    let left_out = report.number_left_out() - before;
-    if count >= 100 && (left_out == 0 || left_out > count / 2) {
-        println!("{left_out} of {count} generated disks left out: that cannot be");
+    // Some of the generated disks are left out for each reason, and not most of them.
+    let after = reasons.map(|why| report.number_left_out(why));
+    let left_out = [after[0] - before[0], after[1] - before[1]];
+    if count >= 100 && (left_out.contains(&0) || left_out[0] + left_out[1] > count / 2) {
+        println!("{left_out:?} of {count} generated disks left out: that cannot be");
         std::process::exit(1);
     }
     println!("no unexplained difference");

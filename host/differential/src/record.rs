@@ -168,8 +168,8 @@ fn load(disk: &[u8], worker: &mut Worker, text: &mut String) -> Result<(), Strin
     if disk.len() != SIZE {
         return Err("not compared at this size".into());
     }
-    if walk::holds_full_list(disk) {
-        return Err("a list has more pairs than image-rider reads".into());
+    if let Some(why) = walk::left_out(disk) {
+        return Err(why.text());
     }
     let number = match worker.load(disk, LIMIT) {
         Theirs::Late => return Err("image-rider does not return".into()),

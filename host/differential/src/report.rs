@@ -1,7 +1,7 @@
 // What was compared, how often each number occurred, and the end at a difference.
 use std::collections::BTreeMap;
 
-use crate::walk::RUST_PAIRS;
+use crate::walk::{LeftOut, RUST_PAIRS, RUST_TRACK};
 
 #[derive(Default)]
 pub struct Report {
@@ -10,7 +10,7 @@ pub struct Report {
     compared: BTreeMap<&'static str, u64>,
     numbers: BTreeMap<(&'static str, u8), u64>,
     explained: BTreeMap<&'static str, u64>,
-    left_out: u64,
+    left_out: BTreeMap<LeftOut, u64>,
 }
 
 impl Report {
@@ -26,13 +26,13 @@ impl Report {
         *self.explained.entry(what).or_default() += 1;
     }
 
-    // A flat disk with a list of more pairs than image-rider reads.
-    pub fn left_out(&mut self) {
-        self.left_out += 1;
+    // A flat disk for which image-rider is no reference.
+    pub fn left_out(&mut self, why: LeftOut) {
+        *self.left_out.entry(why).or_default() += 1;
     }
 
-    pub fn number_left_out(&self) -> u64 {
-        self.left_out
+    pub fn number_left_out(&self, why: LeftOut) -> u64 {
+        self.left_out.get(&why).copied().unwrap_or(0)
     }
 
     // Saves the input and ends.
@@ -53,8 +53,12 @@ impl Report {
         }
         println!("Left out:");
         println!(
+            "  {:>9}  flat disks whose VTOC has a catalog track other than {RUST_TRACK}, where image-rider reads",
+            self.number_left_out(LeftOut::MovedCatalog)
+        );
+        println!(
             "  {:>9}  flat disks with a list of more than the {RUST_PAIRS} pairs that image-rider reads",
-            self.left_out
+            self.number_left_out(LeftOut::FullList)
         );
         println!("Explained differences met:");
         for (what, n) in &self.explained {

@@ -133,7 +133,7 @@ pub const LARGE: [usize; 3] = [LIST_PAIRS, LIST_PAIRS, 257 - 2 * LIST_PAIRS];
 pub fn large(files: usize) -> Vec<u8> {
     let mut d = vec![0u8; SIZE];
     let v = at(17, 0);
-    d[v + 2] = 15;
+    d[v + 1..v + 3].copy_from_slice(&[17, 15]);
     d[v + 52] = 35;
     d[v + 53] = 16;
     for f in 0..files {
