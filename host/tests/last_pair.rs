@@ -1,11 +1,10 @@
 // The last pair of a list: bytes 254 and 255 of its sector are a pair like the rest. On disks of 16 and of 13
 // sectors a track.
 mod common;
-use common::{at_of, five_three, record};
+use common::{at_of, forms, record, EDITIONS};
 use dos33::raw::{dos33_pair_run, dos33_pairs};
 use dos33::*;
 
-const EDITIONS: [usize; 2] = [SECTORS_PER_TRACK, SECTORS_PER_TRACK_13];
 // A list, and how many pairs it has.
 type List = ((u8, u8), usize);
 const ALL_BUT_ONE: List = ((20, 1), LIST_PAIRS - 1);
@@ -67,16 +66,6 @@ fn contents(sectors: usize) -> Vec<u8> {
         .flat_map(|k| [k as u8 + 1; 256])
         .skip(4)
         .collect()
-}
-
-// The flat disk, and the one that is read from its nibbles.
-fn forms(d: &[u8]) -> [Disk<'_>; 2] {
-    let flat = Disk::flat(d);
-    let nibbles = match flat.nibblize() {
-        Ok(stream) => Disk::nibbles(&stream),
-        Err(_) => Disk::nibbles_13(&five_three::stream(d, 254)),
-    };
-    [flat, nibbles.unwrap()]
 }
 
 fn last_byte(per: usize, list: (u8, u8)) -> usize {

@@ -1,10 +1,8 @@
 // A catalog off track 17: its first page is where bytes 1 and 2 of the VTOC say. On disks of 16 and of 13 sectors a track.
 mod common;
-use common::{at_of, disk_of, five_three, record, Dice};
+use common::{at_of, disk_of, forms, record, Dice, EDITIONS};
 use dos33::raw::{dos33_catalog, dos33_survey};
 use dos33::*;
-
-const EDITIONS: [usize; 2] = [SECTORS_PER_TRACK, SECTORS_PER_TRACK_13];
 
 type Place = (u8, u8);
 
@@ -53,16 +51,6 @@ fn moved(per: usize, first: Place) -> Vec<u8> {
     point(&mut d, per, first);
     d[at(per, before) + 11 + 3] = 0x80;
     d
-}
-
-// The flat disk, and the one that is read from its nibbles.
-fn forms(d: &[u8]) -> [Disk<'_>; 2] {
-    let flat = Disk::flat(d);
-    let nibbles = match flat.nibblize() {
-        Ok(stream) => Disk::nibbles(&stream),
-        Err(_) => Disk::nibbles_13(&five_three::stream(d, 254)),
-    };
-    [flat, nibbles.unwrap()]
 }
 
 // All that is read of a disk but the table.

@@ -1,12 +1,11 @@
 -- The catalog begins where bytes 1 and 2 of the VTOC say, on any track of the disk (document 02, Req 08). Assumes nothing.
 use mathlib.Core.Path.{_≡_, refl, sym, _∙_}
-use mathlib.Core.Bool.{true, false}
+use mathlib.Core.Bool.{false}
 use mathlib.Core.List.{List, []}
 use mathlib.Core.Option.{none}
 use Prim.Native.Nat.{ℕ, suc, _+_, _*_, _≤_}
 use native.Mathlib.Omega.{arith}
-use lib.Dec.{ltb}
-use borrow.Author.Tests.{le-ltb, eq-eqb}
+use borrow.Author.Tests.{eq-eqb}
 use Rattle.lists.proofs.Split.{by-test}
 use Rattle.outcome.specs.declared.Refusal.the-variants.{OffDisc}
 use Rattle.outcome.specs.Outcome.{refused, given}
@@ -15,19 +14,11 @@ use Rattle.disk.specs.Disk.{place, onDisk, byteOf}
 use Rattle.disk.specs.Vtoc.{vtoc, readable}
 use Rattle.disk.proofs.Chain.{Chained, walk-chained, chained-walk, budget, bare-off}
 use Rattle.disk.proofs.Sectors.{off-disk-is}
+use Rattle.disk.proofs.Places.{on-sector}
 use Rattle.catalog.specs.Catalog.{soundPage, lastPage, nextPage, firstPage, pages}
-use Rattle.catalog.proofs.Order.{pageWalk, pages-given}
+use Rattle.catalog.proofs.Order.{pages-given}
 
 module _ (n : ℕ) (d : List ℕ) where
-  -- a track that the disk has not is off it ..
-  far-track : (p : Place) → 35 ≤ p .track .0 → onDisk n p ≡ false
-  far-track p h = sym (off-disk-is n p h)
-
-  -- .. and so is such a sector
-  far-sector : (p : Place) → n ≤ p .sector .0 → onDisk n p ≡ false
-  unfolding onDisk
-  far-sector p h = rw (le-ltb _ _ h) (by-test (ltb (p .track .0) 35) (λ e. rw e refl) (λ e. rw e refl))
-
   -- the pages from the place in bytes 1 and 2 of the VTOC on, each sound, link by link to the end
   abbrev pub PagesFrom : List Place → Type 0
   PagesFrom = Chained n (soundPage n d) (nextPage n d) (place (byteOf n d vtoc 1) (byteOf n d vtoc 2))
@@ -42,11 +33,12 @@ module _ (n : ℕ) (d : List ℕ) where
 
     -- so is a track of 35 and more in byte 1 ..
     pub track-off : 35 ≤ byteOf n d vtoc 1 → pages n d ≡ refused OffDisc
-    track-off h = begins-off (far-track (firstPage n d) h)
+    track-off h = begins-off (sym (off-disk-is n (firstPage n d) h))
 
     -- .. and a sector that a track has not in byte 2
     pub sector-off : n ≤ byteOf n d vtoc 2 → pages n d ≡ refused OffDisc
-    sector-off h = begins-off (far-sector (firstPage n d) h)
+    sector-off h =
+        begins-off (by-test (onDisk n (firstPage n d)) (λ on. absurd (omega (arith, on-sector n (firstPage n d) on))) (λ off. off))
 
     -- pages that begin there are the catalog's, on whatever track of the disk, 0 too
     pub pages-from : (ps : List Place) → PagesFrom ps → pages n d ≡ given ps

@@ -3,10 +3,11 @@
 
 pub mod five_three;
 
-use dos33::LIST_PAIRS;
+use dos33::{Disk, LIST_PAIRS, SECTORS_PER_TRACK, SECTORS_PER_TRACK_13};
 
 pub const SIZE: usize = 143_360;
 pub const SIZE_13: usize = 116_480;
+pub const EDITIONS: [usize; 2] = [SECTORS_PER_TRACK, SECTORS_PER_TRACK_13];
 
 pub fn at(track: usize, sector: usize) -> usize {
     at_of(16, track, sector)
@@ -157,6 +158,16 @@ pub fn large(files: usize) -> Vec<u8> {
     }
     d[at(1, 0)..at(1, 0) + 256].fill(0xFF);
     d
+}
+
+/// A flat disk of volume 254, and the same as it is read from its nibbles.
+pub fn forms(d: &[u8]) -> [Disk<'_>; 2] {
+    let flat = Disk::flat(d);
+    let nibbles = match flat.nibblize() {
+        Ok(stream) => Disk::nibbles(&stream),
+        Err(_) => Disk::nibbles_13(&five_three::stream(d, 254)),
+    };
+    [flat, nibbles.unwrap()]
 }
 
 /// Where the field of an address sector stands in a stream of `nibblize`.
