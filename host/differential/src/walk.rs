@@ -38,7 +38,7 @@ pub struct Chain {
     pub ring: bool,
 }
 
-pub fn on_disk(place: Place) -> bool {
+fn on_disk(place: Place) -> bool {
     place.0 <= 34 && place.1 <= 15
 }
 
@@ -129,6 +129,29 @@ fn listed(record: &[u8]) -> Vec<u8> {
     bytes.extend(name);
     bytes.extend(&record[33..35]);
     bytes
+}
+
+// The number of such a disk: that of its catalog, or else of the first entry that has one.
+pub fn number(disk: &[u8]) -> u8 {
+    if let Err(number) = catalog(disk) {
+        return number;
+    }
+    let firsts = first_lists(disk).into_iter();
+    let mut numbers = firsts.map(|first| thread_number(disk, first));
+    numbers.find(|number| *number != 0).unwrap_or(0)
+}
+
+// The number of an entry: 3, 4, 5 along its lists, then 3 for a pair.
+fn thread_number(disk: &[u8], first: Place) -> u8 {
+    let chain = lists(disk, first);
+    let off = |list: &Place| !pairs(disk, *list).into_iter().all(on_disk);
+    match (chain.places.is_empty(), chain.ring, chain.end) {
+        (_, true, _) => 4,
+        (false, _, (0, _)) if chain.places.iter().any(off) => 3,
+        (false, _, (0, _)) => 0,
+        (false, _, (_, 0)) => 5,
+        _ => 3,
+    }
 }
 
 // The pairs of the list at a place on the disk: up to a zero track, or to the end of the sector.
