@@ -28,14 +28,14 @@ fn unused(per: usize) -> Vec<Place> {
     all_places(per).into_iter().filter(blank).collect()
 }
 
-fn point(d: &mut [u8], per: usize, first: Place) {
-    let v = at(per, (17, 0));
-    d[v + 1..v + 3].copy_from_slice(&[first.0, first.1]);
+// Bytes 1 and 2 of a page, and of the VTOC.
+fn link(d: &mut [u8], per: usize, from: Place, to: Place) {
+    let sector = at(per, from);
+    d[sector + 1..sector + 3].copy_from_slice(&[to.0, to.1]);
 }
 
-fn link(d: &mut [u8], per: usize, from: Place, to: Place) {
-    let page = at(per, from);
-    d[page + 1..page + 3].copy_from_slice(&[to.0, to.1]);
+fn point(d: &mut [u8], per: usize, first: Place) {
+    link(d, per, (17, 0), first);
 }
 
 fn copy(d: &mut [u8], per: usize, from: Place, to: Place) {
@@ -114,9 +114,12 @@ fn flat_or_as_nibbles() {
 
 #[test]
 fn one_archive_on_both_editions() {
-    let [a, b] = EDITIONS.map(|per| moved(per, (0, 0)));
-    let archive = Disk::flat(&a).archive().unwrap();
-    assert_eq!(Disk::flat(&b).check(&archive), Ok(()));
+    for a in EDITIONS {
+        let archive = Disk::flat(&disk_of(a)).archive().unwrap();
+        for b in EDITIONS {
+            assert_eq!(Disk::flat(&moved(b, (0, 0))).check(&archive), Ok(()));
+        }
+    }
 }
 
 #[test]
