@@ -137,12 +137,12 @@ pub fn number(disk: &[u8]) -> u8 {
         return number;
     }
     let firsts = first_lists(disk).into_iter();
-    let mut numbers = firsts.map(|first| thread_number(disk, first));
+    let mut numbers = firsts.map(|first| entry_refusal(disk, first));
     numbers.find(|number| *number != 0).unwrap_or(0)
 }
 
 // The number of an entry: 3, 4, 5 along its lists, then 3 for a pair.
-fn thread_number(disk: &[u8], first: Place) -> u8 {
+fn entry_refusal(disk: &[u8], first: Place) -> u8 {
     let chain = lists(disk, first);
     let off = |list: &Place| !pairs(disk, *list).into_iter().all(on_disk);
     match (chain.places.is_empty(), chain.ring, chain.end) {
