@@ -260,6 +260,19 @@ fn the_table_as_the_first_page() {
     }
 }
 
+// The recogniser goes on asking for 17, 15, 3. A disk that it does not know is read all the same.
+#[test]
+fn the_recogniser_is_as_it_was() {
+    let header = [0x01, 0xA5, 0x27, 0xC9, 0x09, 0xD0, 0x18, 0xA5, 0x2B];
+    let mut d = disk_of(SECTORS_PER_TRACK);
+    d[..9].copy_from_slice(&header);
+    assert_eq!(format_from_data(&d), Ok(true));
+    let mut d = moved(SECTORS_PER_TRACK, (16, 15));
+    d[..9].copy_from_slice(&header);
+    assert_eq!(format_from_data(&d), Ok(false));
+    assert_eq!(Disk::flat(&d).catalog().unwrap().len(), 3);
+}
+
 // On a disk of 16: the first page on track 0, then every sector that a link can name.
 #[test]
 fn the_largest_catalog() {
