@@ -110,6 +110,13 @@ enum {
     DOS33_FORMAT_FIELDS = 1
 };
 
+/* Where an entry block of an archive has its name. */
+enum {
+    DOS33_ARCHIVE_NAME = 7,         /* as it is shown; dos33_archive_step gives its length */
+    DOS33_ARCHIVE_RAW_NAME = 42,    /* as it is cut: the name bytes of the disk, */
+    DOS33_RAW_NAME_SIZE = 30        /* so many of them */
+};
+
 /* A pair of a track/sector list: two bytes, one behind the other. */
 typedef struct dos33_track_sector_pair {
     uint8_t track_number;
@@ -154,7 +161,7 @@ uint8_t dos33_pair_run(const uint8_t *disk, size_t disk_length, uint8_t track, u
 uint8_t dos33_file(const uint8_t *disk, size_t disk_length, uint64_t entry,
                    uint8_t *out, size_t out_length, uint64_t *length);
 
-/* The bytes of the last entry whose shown name is `name`. 1 to 6, 18, 12. */
+/* The bytes of the last entry whose shown name is `name`, however it is cut. 1 to 6, 18, 12. */
 uint8_t dos33_fetch(const uint8_t *disk, size_t disk_length,
                     const uint8_t *name, size_t name_length,
                     uint8_t *out, size_t out_length, uint64_t *length);
@@ -178,17 +185,18 @@ uint8_t dos33_archive_open(const uint8_t *archive, size_t archive_length,
                            uint64_t *fields, size_t fields_length);
 
 /* 8 numbers of the entry whose entry block is `block`: 1, next entry block (0 after the last),
-   first data block (0: no data), type, lock, name length, sector count, data length. The name
-   stands at 256 * block + 7. Any other block is the end: eight zeros. A data block has the next
-   data block in bytes 0-1 (low byte first, 0 after the last) and up to 254 bytes of data from
-   byte 2. The archive is opened again at each call. 13, 12. */
+   first data block (0: no data), type, lock, name length, sector count, data length. The name as
+   it is shown stands at 256 * block + DOS33_ARCHIVE_NAME, and the 30 name bytes as they are cut on
+   the disk at 256 * block + DOS33_ARCHIVE_RAW_NAME. Any other block is the end: eight zeros. A data
+   block has the next data block in bytes 0-1 (low byte first, 0 after the last) and up to 254 bytes
+   of data from byte 2. The archive is opened again at each call. 13, 12. */
 uint8_t dos33_archive_entry(const uint8_t *archive, size_t archive_length, uint64_t block,
                             uint64_t *fields, size_t fields_length);
 
 /* The same 8 numbers, of a block that dos33_archive_open or a step gave for these very bytes; that
    block alone is looked at. A block that does not look like an entry block is the end: eight zeros,
-   and 13 is never given. A data block can look like one (254 zeros do), so of a block that no step
-   gave this may show an entry that the archive has not: then ask dos33_archive_entry. 12. */
+   and 13 is never given. The bytes of a file can look like one, so of a block that no step gave this
+   may show an entry that the archive has not: then ask dos33_archive_entry. 12. */
 uint8_t dos33_archive_step(const uint8_t *archive, size_t archive_length, uint64_t block,
                            uint64_t *fields, size_t fields_length);
 

@@ -1,7 +1,7 @@
 use std::iter::FusedIterator;
 
 use crate::types::text;
-use crate::{lend, raw, FileType, Refusal};
+use crate::{lend, raw, FileType, RawName, Refusal};
 
 /// An archive that was opened: the contents of a disk in blocks of 256 bytes. It is lent, not copied.
 ///
@@ -146,7 +146,7 @@ impl<'a> Iterator for Entries<'a> {
 
 impl FusedIterator for Entries<'_> {}
 
-/// An entry of an archive. Its name and its data are lent from the archive.
+/// An entry of an archive. Its name, shown and as it is cut, and its data are lent from the archive.
 #[derive(Clone, Copy, Debug)]
 pub struct ArchiveEntry<'a> {
     bytes: &'a [u8],
@@ -155,6 +155,7 @@ pub struct ArchiveEntry<'a> {
     kind: FileType,
     locked: bool,
     name: &'a [u8],
+    raw_name: &'a RawName,
     sectors: u16,
     length: usize,
 }
@@ -165,14 +166,16 @@ impl<'a> ArchiveEntry<'a> {
         if f[0] == 0 {
             return None;
         }
-        let at = 256 * block as usize + 7;
+        let at = 256 * block as usize;
+        let name = at + 7;
         Some(ArchiveEntry {
             bytes,
             block,
             first: f[2] as usize,
             kind: FileType::from_code(f[3] as u8),
             locked: f[4] != 0,
-            name: bytes.get(at..at + f[5] as usize)?,
+            name: bytes.get(name..name + f[5] as usize)?,
+            raw_name: bytes.get(at + 42..)?.first_chunk()?,
             sectors: f[6] as u16,
             length: f[7] as usize,
         })
@@ -183,9 +186,15 @@ impl<'a> ArchiveEntry<'a> {
         self.block
     }
 
-    /// The name: ASCII, at most 30 bytes. It may hold control characters.
+    /// The name as it is shown: ASCII, at most 30 bytes. It may hold control characters.
     pub fn name(&self) -> &'a str {
         text(self.name)
+    }
+
+    /// The name as it is cut: its 30 bytes on the disk. Two names that show alike may differ here, in high
+    /// bits or in what stands behind the last letter; then the contents of their disks differ.
+    pub fn raw_name(&self) -> &'a RawName {
+        self.raw_name
     }
 
     /// The type.

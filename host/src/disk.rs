@@ -1,7 +1,7 @@
 use crate::types::locations;
 use crate::{
     denibblize, denibblize_13, lend, nibblize, raw, Archive, CatalogEntry, File, FileType,
-    Location, Name, Refusal, Sector, Survey, Track, TrackSectorPair, Vtoc, LIST_PAIRS,
+    Location, Name, RawName, Refusal, Sector, Survey, Track, TrackSectorPair, Vtoc, LIST_PAIRS,
     SECTORS_PER_TRACK, TRACKS,
 };
 
@@ -176,22 +176,47 @@ impl<'a> Disk<'a> {
     /// # Errors
     /// 1 to 6.
     pub fn files(&self) -> Result<Vec<File>, Refusal> {
-        let entries = self.catalog()?;
-        let file = |entry, bytes| File { entry, bytes };
+        let entries = self.catalog()?.into_iter();
+        let file = |entry, &raw_name: &RawName, bytes| File {
+            entry,
+            raw_name,
+            bytes,
+        };
         match self.write_archive() {
             Ok(archive) => {
-                let steps = Archive::written(&archive).entries();
-                let all = entries.into_iter().zip(steps);
+                let all = entries.zip(Archive::written(&archive).entries());
                 Ok(all
-                    .map(|(entry, step)| file(entry, step.to_vec()))
+                    .map(|(entry, step)| file(entry, step.raw_name(), step.to_vec()))
                     .collect())
             }
             Err(Refusal::Overlong) => {
-                let all = entries.into_iter().enumerate();
-                all.map(|(k, entry)| Ok(file(entry, self.file(k)?)))
+                let names = self.raw_names()?;
+                let all = entries.zip(&names).enumerate();
+                all.map(|(k, (entry, name))| Ok(file(entry, name, self.file(k)?)))
                     .collect()
             }
             Err(refusal) => Err(refusal),
+        }
+    }
+
+    // The name bytes of a catalog that was read before, page by page: an archive has them, and this is for a
+    // disk that has none.
+    fn raw_names(&self) -> Result<Vec<RawName>, Refusal> {
+        let mut names = Vec::new();
+        let mut at = self.vtoc()?.catalog;
+        loop {
+            let page = self.sector(at.track, at.sector)?;
+            let live = page[11..]
+                .chunks_exact(35)
+                .filter(|e| !matches!(e[0], 0 | 0xFF));
+            names.extend(live.filter_map(|e| e[3..].first_chunk::<30>()));
+            if page[1] == 0 || page[2] == 0 {
+                return Ok(names);
+            }
+            at = Location {
+                track: Track(page[1]),
+                sector: Sector(page[2]),
+            };
         }
     }
 

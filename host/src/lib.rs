@@ -48,6 +48,10 @@
 //! A stream that both can read stands for two disks. Which address mark comes first in a stream is told
 //! by [`recognize_prologue`].
 //!
+//! A name is asked for as it is shown. Two names that show alike may be cut differently on their disks, in
+//! high bits or behind their last letter ([`File::raw_name`], [`ArchiveEntry::raw_name`]): then the
+//! archives of the disks differ.
+//!
 //! | documents 01 and 02 | here |
 //! |---|---|
 //! | disc, roll, thread, load | [`Disk`], [`Disk::catalog`], [`Disk::lists`], [`Disk::file`], [`Disk::files`] |
@@ -81,7 +85,8 @@ pub use nibbles::{
 pub use records::{binary_file, catalog_page, EntryRecord};
 pub use refusal::Refusal;
 pub use types::{
-    CatalogEntry, File, FileType, Location, Name, Sector, Survey, Track, TrackSectorPair, Vtoc,
+    CatalogEntry, File, FileType, Location, Name, RawName, Sector, Survey, Track, TrackSectorPair,
+    Vtoc,
 };
 
 /// The tracks of a disk.

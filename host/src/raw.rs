@@ -143,8 +143,9 @@ extern "C" {
     ) -> u8;
 
     /// 8 numbers of the entry whose entry block is `block`: 1, next entry block, first data block, type,
-    /// lock, name length, sector count, data length. Any other block is the end: eight zeros.
-    /// The archive is opened again at each call. Refusals 13, 12.
+    /// lock, name length, sector count, data length. Any other block is the end: eight zeros. The name as
+    /// it is shown stands at 256 * block + 7 of the archive, the 30 name bytes as they are cut at
+    /// 256 * block + 42. The archive is opened again at each call. Refusals 13, 12.
     pub fn dos33_archive_entry(
         archive: *const u8,
         archive_length: usize,
@@ -156,9 +157,9 @@ extern "C" {
     /// The same 8 numbers, of a block that [`dos33_archive_open`] or a step gave for these very bytes.
     /// That block alone is looked at: this is the cheap step. Refusal 12.
     ///
-    /// A block that does not look like an entry block is the end: eight zeros, 13 is never given. A
-    /// data block can look like one (254 zeros do), so of a block that no step gave this may show an
-    /// entry that the archive has not; [`dos33_archive_entry`] shows entry blocks alone.
+    /// A block that does not look like an entry block is the end: eight zeros, 13 is never given. The
+    /// bytes of a file can look like one, so of a block that no step gave this may show an entry that the
+    /// archive has not; [`dos33_archive_entry`] shows entry blocks alone.
     pub fn dos33_archive_step(
         archive: *const u8,
         archive_length: usize,

@@ -187,17 +187,22 @@ pub struct CatalogEntry {
     pub kind: FileType,
     /// Whether it is locked.
     pub locked: bool,
-    /// Its name.
+    /// Its name, as it is shown: by this it is fetched. How it is cut: [`File::raw_name`].
     pub name: Name,
     /// Its sector count, as the entry states it.
     pub sectors: u16,
 }
 
-/// A file: its entry in the catalog, and its bytes.
+/// The 30 name bytes of an entry, as they are cut on the disk. None of them is 80h.
+pub type RawName = [u8; 30];
+
+/// A file: its entry in the catalog, its name as it is cut, and its bytes.
 #[derive(Clone, Debug, PartialEq, Eq, Hash)]
 pub struct File {
     /// The entry.
     pub entry: CatalogEntry,
+    /// The name bytes. `entry.name` is what they show.
+    pub raw_name: RawName,
     /// The bytes. A file that is not Binary has none.
     pub bytes: Vec<u8>,
 }

@@ -26,6 +26,7 @@ fn agrees(disk: &Disk<'_>, bytes: &[u8]) {
         );
         let data = disk.file(k).unwrap();
         assert_eq!((files[k].entry, &files[k].bytes), (*c, &data));
+        assert_eq!(files[k].raw_name, *e.raw_name());
         assert_eq!((e.len(), e.is_empty()), (data.len(), data.is_empty()));
         assert_eq!(e.to_vec(), data);
         let parts: Vec<&[u8]> = e.data().collect();
@@ -64,12 +65,14 @@ fn written_checked_opened_and_stepped_through() {
 fn names_and_data_are_lent_from_the_bytes() {
     let d = disk();
     let bytes = Disk::flat(&d).archive().unwrap();
-    let (name, part) = {
+    let (name, raw_name, part) = {
         let archive = Archive::open(&bytes).unwrap();
         let e = archive.entries().last().unwrap();
-        (e.name(), e.data().next().unwrap())
+        (e.name(), e.raw_name(), e.data().next().unwrap())
     };
     assert_eq!((name, part), ("LINE 7", &[11, 22, 33][..]));
+    assert_eq!(raw_name[..7], *b"\xCC\xC9\xCE\xC5\xA0\xB7\xA0");
+    assert!(bytes.as_ptr_range().contains(&raw_name.as_ptr()));
 }
 
 // Any other byte is another disk's archive, or none.
@@ -79,22 +82,29 @@ fn damaged() {
     let flat = Disk::flat(&d);
     let good = flat.archive().unwrap();
     let mut bytes = good.clone();
-    let mut opened = 0;
-    for i in 0..good.len() {
-        bytes[i] ^= 0x01;
-        assert_eq!(flat.check(&bytes), Err(Refusal::NotItsReturn), "byte {i}");
-        match Archive::open(&bytes) {
-            Ok(a) => {
-                opened += 1;
-                assert_eq!(a.entries().count(), 3, "byte {i}");
+    let mut count = |flip: u8| {
+        let mut opened = 0;
+        for i in 0..good.len() {
+            bytes[i] ^= flip;
+            assert_eq!(flat.check(&bytes), Err(Refusal::NotItsReturn), "byte {i}");
+            match Archive::open(&bytes) {
+                Ok(a) => {
+                    opened += 1;
+                    assert_eq!(a.entries().count(), 3, "byte {i}");
+                }
+                Err(r) => assert_eq!(r, Refusal::NotItsReturn),
             }
-            Err(r) => assert_eq!(r, Refusal::NotItsReturn),
+            bytes[i] = good[i];
         }
-        bytes[i] = good[i];
-    }
-    // Those that open are other contents: 1 volume, 3 locks, 17 letters, 3 * 2 bytes of sector counts, 603 bytes of data,
-    // 1 type (0 as 1; 4 as 5 is none of the nine), 2 name lengths (6 as 7: a zero is a letter), 1 data length (600 as 601).
-    assert_eq!(opened, 1 + 3 + 17 + 6 + 603 + 1 + 2 + 1);
+        opened
+    };
+    // Those that open are other contents: 1 volume, 3 locks, 3 * 2 bytes of sector counts, 603 bytes of data,
+    // 1 type (0 as 1; 4 as 5 is none of the nine), 1 data length (600 as 601). A letter, a name length or a name
+    // byte alone is none: the one does not give the other.
+    assert_eq!(count(0x01), 1 + 3 + 6 + 603 + 1 + 1);
+    // 1 volume, the sector counts, the data, 2 data lengths (600 as 728, 3 as 131), and the high bit of each of
+    // 3 * 30 name bytes.
+    assert_eq!(count(0x80), 1 + 6 + 603 + 2 + 90);
     // Each cut.
     for n in (0..good.len()).step_by(64) {
         assert_eq!(
@@ -116,6 +126,7 @@ fn the_largest_archives() {
         let next = if b < 4095 { b + 1 } else { 0 };
         bytes[256 * b] = next as u8;
         bytes[256 * b + 1] = (next / 256) as u8;
+        bytes[256 * b + 42..256 * b + 72].fill(0xA0);
     }
     // Opening goes as deep as there are blocks; so much stack is enough.
     let copy = bytes.clone();
@@ -148,6 +159,7 @@ fn the_largest_archives() {
     let size = 254 * 4094;
     one[256 + 2] = 2;
     one[256 + 4] = 4;
+    one[256 + 42..256 + 72].fill(0xA0);
     one[256 + 39..256 + 42].copy_from_slice(&[size as u8, (size >> 8) as u8, (size >> 16) as u8]);
     for b in 2..4096usize {
         let next = if b < 4095 { b + 1 } else { 0 };

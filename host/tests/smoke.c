@@ -129,7 +129,16 @@ int main(void) {
     block = f[1];
     EXPECT(dos33_archive_entry(archive, blocks, block, f, DOS33_STEP_FIELDS) == 0);
     EXPECT(f[0] == 1 && f[1] == 0 && f[3] == DOS33_BINARY && f[4] == 1 && f[5] == 4 && f[6] == 3 && f[7] == 300);
-    EXPECT(memcmp(archive + 256 * block + 7, name, 4) == 0);
+    EXPECT(memcmp(archive + 256 * block + DOS33_ARCHIVE_NAME, name, 4) == 0);
+    EXPECT(memcmp(archive + 256 * block + DOS33_ARCHIVE_RAW_NAME, at(17, 15) + 14, DOS33_RAW_NAME_SIZE) == 0);
+    /* A high bit of the name: it is shown as before, and the archive is another. */
+    at(17, 15)[14] ^= 0x80;
+    EXPECT(dos33_catalog(disk, sizeof disk, out, sizeof out, &n) == 0);
+    EXPECT(n == 37 && memcmp(out, listed, 37) == 0);
+    EXPECT(dos33_fetch(disk, sizeof disk, name, 4, out, sizeof out, &n) == 0 && n == 300);
+    EXPECT(dos33_archive_check(disk, sizeof disk, archive, blocks) == DOS33_NOT_ITS_RETURN);
+    at(17, 15)[14] ^= 0x80;
+    EXPECT(dos33_archive_check(disk, sizeof disk, archive, blocks) == 0);
     EXPECT(dos33_archive_step(archive, blocks, block, g, DOS33_STEP_FIELDS) == 0);
     EXPECT(memcmp(f, g, sizeof g) == 0);
     EXPECT(dos33_archive_step(archive, blocks, f[1], g, DOS33_STEP_FIELDS) == 0);

@@ -162,16 +162,22 @@ fn entries_by_block() {
     }
 }
 
-// What a caller must know: a data block of zeros looks like an entry block, and bytes are not judged.
+// What a caller must know: the bytes of a file can look like an entry block, and bytes are not judged.
 #[test]
 fn blocks_that_no_step_gave() {
-    // One Binary file of 254 zeros: block 1 its entry, block 2 its data.
+    // One Binary file of 254 bytes, its name empty: block 1 its entry, block 2 its data. Zeros do not look like
+    // an entry: 30 name bytes of zero show 30 letters.
     let mut archive = vec![0u8; 3 * 256];
     archive[1] = 1;
     archive[3] = 3;
     archive[256 + 2] = 2;
     archive[256 + 4] = 4;
     archive[256 + 39] = 254;
+    archive[256 + 42..256 + 72].fill(0xA0);
+    assert_eq!(along(&archive), 1);
+    assert_eq!(call(dos33_archive_step, &archive, 2, 8), (0, vec![0; 8]));
+    // A Text file without a name does.
+    archive[512 + 42..512 + 72].fill(0xA0);
     assert_eq!(along(&archive), 1);
     assert_eq!(
         call(dos33_archive_step, &archive, 2, 8),

@@ -1,15 +1,17 @@
 -- The reader gives back what was entryOf. Assumes nothing.
-use mathlib.Core.Path.{_≡_, refl}
+use mathlib.Core.Path.{_≡_, refl, sym, ap, _∙_}
 use mathlib.Core.Bool.{true, cond, _||_}
 use mathlib.Core.List.{List, [], _∷_, _++_, append-assoc, append-nil}
 use Prim.Native.Nat.{ℕ, zero, suc, _+_, _*_, _-_, _/_, _≤_, _<_}
 use native.Mathlib.Omega.{arith}
 use lib.ListN.{length, take, drop, getD, length-take, length-drop, take-append-drop}
-use lib.Seq.{take-at, drop-at, getD-append-add, take-all}
+use lib.Seq.{take-at, drop-at, drop-drop, getD-append-add, take-all}
 use lib.Dec.{eqb, leb}
 use borrow.Author.Tests.{eq-eqb, ne-eqb, le-leb, lt-leb, lt-ltb, eqb-false}
 use Rattle.outcome.specs.Outcome.{Outcome, refused, given, _>>=_}
 use Rattle.lists.proofs.Split.{by-test, by-lt}
+use Rattle.catalog.specs.Catalog.{shown}
+use Rattle.catalog.proofs.Names.{shown-short}
 use Rattle.files.specs.Contents.{File, Contents, Proper}
 use Rattle.lists.specs.Every.{Every, none, more}
 use Rattle.files.specs.Survey.{blocksFor, dataBlocks, blocksIn, blocks}
@@ -29,33 +31,50 @@ use Rattle.archive.proofs.Blocks.{length-data, length-first, length-ent
 past : (p c r t : List ℕ) (i : ℕ) → length p ≡ 30 → getD (p ++ c ++ r ++ t) (30 + i) 0 ≡ getD (c ++ (r ++ t)) i 0
 past p c r t i e = rw (append-assoc p c r, append-assoc p (c ++ r) t, append-assoc c r t, ← e) (getD-append-add p (c ++ (r ++ t)) i 0)
 
-module _ (next first size : ℕ) (f : File) (h : length (f .name) ≤ 30) (t : List ℕ) where
+past-drop : (p c r t : List ℕ) (i : ℕ) → length p ≡ 30 → drop (30 + i) (p ++ c ++ r ++ t) ≡ drop i (c ++ (r ++ t))
+past-drop p c r t i e =
+    rw (append-assoc p c r, append-assoc p (c ++ r) t, append-assoc c r t)
+    (sym (drop-drop i 30 (p ++ (c ++ (r ++ t)))) ∙ ap (drop i) (drop-at p (c ++ (r ++ t)) 30 e))
+
+module _ (next first size : ℕ) (f : File) (h : length (f .raw) ≡ 30) (t : List ℕ) where
+  -- the shown name fits its field
+  field-long : length (padded 30 (shown (f .raw))) ≡ 30
+  field-long = let s = shown-short (f .raw) in length-padded 30 (shown (f .raw)) (omega arith)
+
   -- the data length is read back
   pub entry-size : size < 16777216 → sizeIn (entryBlock next first size f ++ t) ≡ size
   unfolding entryBlock padded
   entry-size l =
-      let p : List ℕ = padded 30 (f .name) in
-      let c : List ℕ = le2 (f .count) ++ le3 size in
-      let e : length p ≡ 30 = length-padded 30 (f .name) h in
+      let p : List ℕ = padded 30 (shown (f .raw)) in
+      let c : List ℕ = le2 (f .count) ++ (le3 size ++ f .raw) in
+      let e : length p ≡ 30 = field-long in
       three size _ _ _ l (past p c _ t 2 e) (past p c _ t 3 e) (past p c _ t 4 e)
 
   -- so is the sector count
   pub entry-count : f .count < 65536 → wordAt (entryBlock next first size f ++ t) 37 ≡ f .count
   unfolding entryBlock padded
   entry-count l =
-      let p : List ℕ = padded 30 (f .name) in
-      let c : List ℕ = le2 (f .count) ++ le3 size in
-      let e : length p ≡ 30 = length-padded 30 (f .name) h in
+      let p : List ℕ = padded 30 (shown (f .raw)) in
+      let c : List ℕ = le2 (f .count) ++ (le3 size ++ f .raw) in
+      let e : length p ≡ 30 = field-long in
       two (f .count) _ _ l (past p c _ t 0 e) (past p c _ t 1 e)
 
-  -- and the name
-  pub entry-name : take (length (f .name)) (drop 7 (entryBlock next first size f ++ t)) ≡ f .name
+  -- and the name, as it is shown ..
+  pub entry-name : take (length (shown (f .raw))) (drop 7 (entryBlock next first size f ++ t)) ≡ shown (f .raw)
   unfolding entryBlock padded
-  entry-name = simp append-assoc (take-at (f .name) _ (length (f .name)) refl)
+  entry-name = simp append-assoc (take-at (shown (f .raw)) _ (length (shown (f .raw))) refl)
+
+  -- .. and as it is cut
+  pub entry-raw : take 30 (drop 42 (entryBlock next first size f ++ t)) ≡ f .raw
+  unfolding entryBlock padded
+  entry-raw =
+      let p : List ℕ = padded 30 (shown (f .raw)) in
+      let c : List ℕ = le2 (f .count) ++ (le3 size ++ f .raw) in
+      ap (take 30) (past-drop p c _ t 5 field-long) ∙ take-at (f .raw) _ 30 h
 
 -- f with the bytes xs
 abbrev pub withBytes : File → List ℕ → File
-withBytes f xs = record { kind = f .kind; locked = f .locked; name = f .name; count = f .count; bytes = xs }
+withBytes f xs = record { kind = f .kind; locked = f .locked; raw = f .raw; count = f .count; bytes = xs }
 
 -- the file is read back
 pub entry-back : (next first size : ℕ) (f : File) (t xs : List ℕ) → Proper f → entryIn (entryBlock next first size f ++ t) xs ≡ withBytes f xs
@@ -64,8 +83,8 @@ entry-back next first size f t xs p = λ i.
     record {
       kind = f .kind;
       locked = f .locked;
-      name = entry-name next first size f (p .nameLength) t i;
-      count = entry-count next first size f (p .nameLength) t (p .count) i;
+      raw = entry-raw next first size f (p .rawLength) t i;
+      count = entry-count next first size f (p .rawLength) t (p .count) i;
       bytes = xs;
     }
 
@@ -77,7 +96,7 @@ proper-allowed {f} xs p =
     let k : eqb (f .kind) 4 || eqb (length (f .bytes)) 0 ≡ true =
     by-test (eqb (f .kind) 4) (λ e. rw e refl) (λ e. rw (e, p .binaryOnly (eqb-false (f .kind) 4 e)) refl)
     in
-    rw (eq-eqb _ _ (p .kind), lt-ltb _ _ (p .locked), le-leb _ _ (p .nameLength), all-below 128 (f .name) (p .nameBytes), p .nameEnd, same-refl (f .name)) k
+    rw (eq-eqb _ _ (p .kind), lt-ltb _ _ (p .locked), eq-eqb _ _ (p .rawLength), all-below 128 (shown (f .raw)) (p .letters)) k
 
 -- the entry block of f as block b, with n blocks behind it
 abbrev pub entryOf : ℕ → ℕ → File → List ℕ
@@ -86,14 +105,14 @@ entryOf n b f =
     entryBlock (cond (eqb k n) 0 (b + 1 + k)) (cond (eqb k 0) 0 (b + 1)) (length (f .bytes)) f
 
 -- such a block is a block
-pub entry-long : (n b : ℕ) (f : File) → length (f .name) ≤ 30 → length (entryOf n b f) ≡ 256
-entry-long n b f h = length-entry _ _ (length (f .bytes)) f h
+pub entry-long : (n b : ℕ) (f : File) → length (f .raw) ≡ 30 → length (entryOf n b f) ≡ 256
+entry-long n b f h = length-entry _ _ (length (f .bytes)) f (omega arith)
 
 -- and is taken for what it is
 pub entry-sound : (n b : ℕ) (f : File) (t : List ℕ) → Proper f → length (f .bytes) < 16777216 → soundEntry n b (entryOf n b f ++ t) ≡ true
 unfolding soundEntry entryBlock
 entry-sound n b f t p l =
-    rw (entry-size _ _ (length (f .bytes)) f (p .nameLength) t l, entry-back _ _ (length (f .bytes)) f t [] p, proper-allowed [] p, take-at (entryOf n b f) t 256 (entry-long n b f (p .nameLength)))
+    rw (entry-size _ _ (length (f .bytes)) f (p .rawLength) t l, entry-back _ _ (length (f .bytes)) f t [] p, proper-allowed [] p, take-at (entryOf n b f) t 256 (entry-long n b f (p .rawLength)))
     (same-refl (entryOf n b f))
 
 -- ---- a data chain
@@ -189,9 +208,9 @@ entries-back b (more {x = f} {xs = fs} p ps) l =
     let small : length (f .bytes) < 16777216 = omega arith in
     let e : 1 + k + blocksIn fs ≡ suc n = omega arith in
     let t = dataChain k (b + 1) (f .bytes) ++ entryChain (b + 1 + k) fs in
-    let z : sizeIn (entryOf n b f ++ t) ≡ length (f .bytes) = entry-size _ _ _ f (p .nameLength) t small in
+    let z : sizeIn (entryOf n b f ++ t) ≡ length (f .bytes) = entry-size _ _ _ f (p .rawLength) t small in
     let s = entry-sound n b f t p small in
-    let d : drop 256 (entryOf n b f ++ t) ≡ t = drop-at (entryOf n b f) t 256 (entry-long n b f (p .nameLength)) in
+    let d : drop 256 (entryOf n b f ++ t) ≡ t = drop-at (entryOf n b f) t 256 (entry-long n b f (p .rawLength)) in
     rw (e, chain-first b f fs)
     (by-lt 0 (length (f .bytes))
     (λ some.

@@ -8,6 +8,8 @@ use lib.ListN.{length, take, drop, length-append, length-take}
 use lib.Dec.{eqb}
 use Rattle.lists.specs.Words.{le2}
 use Rattle.lists.proofs.Laws.{length-padded}
+use Rattle.catalog.specs.Catalog.{shown}
+use Rattle.catalog.proofs.Names.{shown-short}
 use Rattle.files.specs.Contents.{File, Contents, Proper}
 use Rattle.lists.specs.Every.{Every, none, more}
 use Rattle.files.specs.Survey.{dataBlocks, blocksIn, blocks}
@@ -24,10 +26,11 @@ unfolding firstBlock
 length-first v next n = length-padded 256 (v ∷ le2 next ++ le2 n) (omega arith)
 
 -- an entry block
-pub length-entry : (next first size : ℕ) (f : File) → length (f .name) ≤ 30 → length (entryBlock next first size f) ≡ 256
+pub length-entry : (next first size : ℕ) (f : File) → length (f .raw) ≤ 30 → length (entryBlock next first size f) ≡ 256
 unfolding entryBlock
 length-entry next first size f h =
-    let e = length-padded 30 (f .name) h in
+    let s = shown-short (f .raw) in
+    let e = length-padded 30 (shown (f .raw)) (omega arith) in
     length-padded 256 _ (simp (length-append) (omega arith))
 
 -- a data chain
@@ -39,11 +42,11 @@ length-chain (suc k) b xs =
 
 -- names that fit their field
 abbrev pub Short : List File → Type 0
-Short = Every (λ (f : File). length (f .name) ≤ 30)
+Short = Every (λ (f : File). length (f .raw) ≤ 30)
 
 pub proper-short : {fs : List File} → Every Proper fs → Short fs
 proper-short none = none
-proper-short (more p ps) = more (p .nameLength) (proper-short ps)
+proper-short (more {x = f} p ps) = more {x = f} (omega (arith, p .rawLength)) (proper-short ps)
 
 -- the entries with their data
 pub length-entries : (b : ℕ) {fs : List File} → Short fs → length (entryChain b fs) ≡ 256 * blocksIn fs

@@ -3,14 +3,18 @@ use mathlib.Core.Path.{_≡_, refl, _∙_}
 use mathlib.Core.List.{List, [], _∷_, _++_, append-assoc}
 use Prim.Native.Nat.{ℕ, _+_, _-_, _/_, _%_, _<_, _≤_}
 use native.Mathlib.Omega.{arith}
-use lib.ListN.{length, take, drop, replicate, length-take}
+use lib.ListN.{length, take, drop, replicate, length-take, length-append}
 use borrow.Author.Needs.{needs}
 use Rattle.lists.specs.Fill.{padded, placed}
 use Rattle.lists.specs.Words.{le2, le3}
 use Rattle.lists.proofs.Laws.{length-padded, placed-zeros, drop-zeros}
 use Rattle.lists.proofs.Put.{Put, placed-put, put-more, put-front}
 use Rattle.archive.specs.Archive.{entryBlock, firstBlock}
-use Rattle.archive.specs.Blocks.{nameField, entryBytes}
+use Rattle.catalog.specs.declared.Name.{Name}
+use Rattle.catalog.specs.Catalog.{shown}
+use Rattle.catalog.specs.Listing.{nameOf}
+use Rattle.catalog.proofs.Names.{shown-short}
+use Rattle.archive.specs.Blocks.{entryBytes}
 
 -- no more than was asked for
 short : (n : ℕ) (x : List ℕ) → length (take n x) ≤ n
@@ -29,33 +33,36 @@ first-made volume next blocks z o e p =
     let x : List ℕ = volume ∷ le2 next ++ le2 blocks in
     p ∙ rw e (placed-zeros 256 x (omega arith))
 
--- the name in its field
-pub name-made : (name x z o : List ℕ) → z ≡ replicate 30 0 → x ≡ take 30 (drop 0 name) → o ≡ placed 0 x z → o ≡ nameField name
-unfolding nameField
-name-made name x z o e q p = p ∙ rw (e, q) (placed-zeros 30 (take 30 name) (short 30 name))
-
--- its length fits a byte
-pub name-short : (name x : List ℕ) → x ≡ take 30 (drop 0 name) → length x < 256
-name-short name x e = rw e (omega (arith, short 30 name))
-
 -- an entry block
-pub entry-made : (next first size kind locked count : ℕ) (name x f z a b o : List ℕ) → z ≡ replicate 256 0 → f ≡ nameField name → x ≡ take 30 (drop 0 name)
-    → a ≡ placed 0 (next % 256 ∷ next / 256 % 256 ∷ first % 256 ∷ first / 256 % 256 ∷ kind ∷ locked ∷ length x ∷ []) z
-    → b ≡ placed 7 f a
-    → o ≡ placed 37 (count % 256 ∷ count / 256 % 256 ∷ size % 256 ∷ size / 256 % 256 ∷ size / 65536 % 256 ∷ []) b
-    → o ≡ entryBytes next first size kind locked name count
-unfolding entryBytes entryBlock nameField
-entry-made next first size kind locked count name x f z a b o e g h p q r =
-    let H : List ℕ = next % 256 ∷ next / 256 % 256 ∷ first % 256 ∷ first / 256 % 256 ∷ kind ∷ locked ∷ length x ∷ [] in
+pub entry-made : (next first size kind locked count : ℕ) (raw x : List ℕ) (w : Name) (z a b c o : List ℕ) → z ≡ replicate 256 0 → w ≡ nameOf (take 30 raw)
+    → a ≡ placed 0 (next % 256 ∷ next / 256 % 256 ∷ first % 256 ∷ first / 256 % 256 ∷ kind ∷ locked ∷ w .length ∷ []) z
+    → b ≡ placed 7 (w .letters) a
+    → c ≡ placed 37 (count % 256 ∷ count / 256 % 256 ∷ size % 256 ∷ size / 256 % 256 ∷ size / 65536 % 256 ∷ []) b
+    → x ≡ take 30 (drop 0 raw) → o ≡ placed 42 x c
+    → o ≡ entryBytes next first size kind locked raw count
+unfolding entryBytes entryBlock
+entry-made next first size kind locked count raw x w z a b c o e g p q r h k =
+    let n : List ℕ = shown (take 30 raw) in
+    let H : List ℕ = next % 256 ∷ next / 256 % 256 ∷ first % 256 ∷ first / 256 % 256 ∷ kind ∷ locked ∷ length n ∷ [] in
+    let F : List ℕ = padded 30 n in
     let T : List ℕ = le2 count ++ le3 size in
+    let X : List ℕ = take 30 raw in
+    let p₀ : a ≡ placed 0 H z = p ∙ rw g refl in
+    let q₀ : b ≡ placed 7 F a = q ∙ rw g refl in
+    let k₀ : o ≡ placed 42 X c = k ∙ rw h refl in
     let lz : length z ≡ 256 = rw e refl in
-    let lf : length f ≡ 30 = rw g (length-padded 30 (take 30 name) (short 30 name)) in
-    let p₁ : Put 0 H z a = placed-put p (omega arith) in
-    let q₂ : Put 7 f a b = placed-put q (omega (arith, p₁ .long)) in
-    let p₂ : Put 0 (H ++ f) z b = put-more p₁ q₂ refl (omega arith) in
-    let l₂ : 37 ≡ 0 + length (H ++ f) = omega arith in
-    let q₃ : Put 37 T b o = placed-put r (omega (arith, p₂ .long)) in
-    let p₃ : Put 0 ((H ++ f) ++ T) z o = put-more p₂ q₃ l₂ (omega arith) in
-    in-zeros 256 ((H ++ f) ++ T) z o e p₃ ∙ rw (append-assoc H f T, g, h) refl
+    let s = shown-short X in
+    let lx = short 30 raw in
+    let lf : length F ≡ 30 = length-padded 30 n (omega arith) in
+    let p₁ : Put 0 H z a = placed-put p₀ (omega arith) in
+    let q₂ : Put 7 F a b = placed-put q₀ (omega (arith, p₁ .long)) in
+    let p₂ : Put 0 (H ++ F) z b = put-more p₁ q₂ refl (omega arith) in
+    let l₂ : 37 ≡ 0 + length (H ++ F) = omega arith in
+    let q₃ : Put 37 T b c = placed-put r (omega (arith, p₂ .long)) in
+    let p₃ : Put 0 ((H ++ F) ++ T) z c = put-more p₂ q₃ l₂ (omega arith) in
+    let l₃ : 42 ≡ 0 + length ((H ++ F) ++ T) = omega (arith, length-append (H ++ F) T) in
+    let q₄ : Put 42 X c o = placed-put k₀ (omega (arith, p₃ .long)) in
+    let p₄ : Put 0 (((H ++ F) ++ T) ++ X) z o = put-more p₃ q₄ l₃ (omega arith) in
+    in-zeros 256 (((H ++ F) ++ T) ++ X) z o e p₄ ∙ rw (append-assoc (H ++ F) T X, append-assoc H F (T ++ X)) refl
 
-pub ruleset making = (first-made, name-made, name-short, entry-made, needs)
+pub ruleset making = (first-made, entry-made, needs)

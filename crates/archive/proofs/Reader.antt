@@ -15,6 +15,7 @@ use Rattle.outcome.proofs.Outcome.{met, gives}
 use Rattle.lists.specs.Fill.{Bytes}
 use Rattle.lists.proofs.Split.{by-lt, both-true}
 use Rattle.lists.proofs.Bounds.{bytes-append, bytes-take, bytes-drop}
+use Rattle.catalog.specs.Catalog.{shown}
 use Rattle.files.specs.Contents.{File, Contents, Proper}
 use Rattle.lists.specs.Every.{Every, none, more}
 use Rattle.files.specs.Survey.{blocksFor, blocksIn, blocks}
@@ -28,23 +29,22 @@ use Rattle.archive.proofs.Back.{entryOf, link-is, last-is, chain-first,
 
 -- ---- the tests
 -- what passes is proper
-allowed-proper : (f : File) → f .count < 65536 → Bytes (f .bytes) → allowed (length (f .bytes)) f ≡ true → Proper f
+allowed-proper : (f : File) → f .count < 65536 → Bytes (f .raw) → Bytes (f .bytes) → allowed (length (f .bytes)) f ≡ true → Proper f
 unfolding allowed
-allowed-proper f c h e =
+allowed-proper f c r h e =
     let p₁ = both-true _ _ e in
     let p₂ = both-true _ _ (p₁ .1) in
     let p₃ = both-true _ _ (p₂ .1) in
     let p₄ = both-true _ _ (p₃ .1) in
-    let p₅ = both-true _ _ (p₄ .1) in
     record {
       kind = eqb-true _ _ (p₁ .0);
       locked = ltb-true _ _ (p₂ .0);
-      nameLength = leb-true _ _ (p₃ .0);
-      nameBytes = below-all 128 (f .name) (lit< tt) (p₄ .0);
-      nameEnd = same-eq _ _ (p₅ .0);
+      rawLength = eqb-true _ _ (p₃ .0);
+      rawBytes = r;
+      letters = below-all 128 (shown (f .raw)) (lit< tt) (p₄ .0);
       count = c;
       bytes = h;
-      binaryOnly = λ no. is-nil (f .bytes) (eqb-true _ _ (rw (ne-eqb _ _ no) at (p₅ .1)));
+      binaryOnly = λ no. is-nil (f .bytes) (eqb-true _ _ (rw (ne-eqb _ _ no) at (p₄ .1)));
     }
 
 -- ---- what was read
@@ -87,7 +87,7 @@ entry-put n b s r h e d =
     let t = both-true _ _ (rw (← d .long) at e) in
     let g : DataAre n (b + 1) (length (r .0)) (drop 256 s) r = rw (← d .long) at d in
     record {
-      proper = more (allowed-proper f (omega (arith, h 37, h 38)) (d .bytes) (t .0)) (d .proper);
+      proper = more (allowed-proper f (omega (arith, h 37, h 38)) (bytes-take 30 (drop 42 s) (bytes-drop 42 s h)) (d .bytes) (t .0)) (d .proper);
       is = in-front s (entryOf n b f) (t .1) ∙ rw (g .is, g .count) (sym (chain-first b f (r .1)));
       count = omega (arith, g .count);
     }

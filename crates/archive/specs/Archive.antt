@@ -12,6 +12,7 @@ use Rattle.lists.specs.Words.{le2, le3}
 use Rattle.outcome.specs.declared.Handed.{Handed}
 use Rattle.outcome.specs.Outcome.{Outcome, given, _>>=_, _>>_, require, number, Hands}
 use Rattle.disk.specs.Disk.{perOf}
+use Rattle.catalog.specs.Catalog.{shown}
 use Rattle.files.specs.Contents.{File, Contents, contents}
 use Rattle.files.specs.Survey.{dataBlocks, blocks}
 
@@ -24,11 +25,12 @@ unfoldable pub dataChain : ℕ → ℕ → List ℕ → List ℕ
 dataChain zero b xs = []
 dataChain (suc k) b xs = dataBlock (cond (eqb k 0) 0 (b + 1)) (take 254 xs) ++ dataChain k (b + 1) (drop 254 xs)
 
--- the entry block of a file with so many bytes
+-- the entry block of a file with so many bytes: at 7 the shown name, at 42 the name as it is cut (Req 07), zeros from 72 on
 unfoldable pub entryBlock : ℕ → ℕ → ℕ → File → List ℕ
 entryBlock next first size f =
+    let name = shown (f .raw) in
     padded 256
-    (le2 next ++ (le2 first ++ (f .kind ∷ f .locked ∷ length (f .name) ∷ padded 30 (f .name) ++ (le2 (f .count) ++ le3 size))))
+    (le2 next ++ (le2 first ++ (f .kind ∷ f .locked ∷ length name ∷ padded 30 name ++ (le2 (f .count) ++ (le3 size ++ f .raw)))))
 
 -- b where there are files, else 0
 abbrev pub ifAny : List File → ℕ → ℕ

@@ -9,7 +9,7 @@ use Rattle.outcome.specs.Outcome.{Outcome, refused, given, _>>=_, _>>_, require
 use Rattle.lists.specs.Same.{same}
 use Rattle.lists.specs.Select.{all}
 use Rattle.lists.specs.Words.{wordAt}
-use Rattle.catalog.specs.Catalog.{kindOf, trimmed}
+use Rattle.catalog.specs.Catalog.{kindOf, shown}
 use Rattle.files.specs.Contents.{File, Contents}
 use Rattle.files.specs.Survey.{blocksFor}
 use Rattle.archive.specs.Archive.{dataBlock, entryBlock, firstBlock}
@@ -24,16 +24,16 @@ entryIn s xs =
     record {
       kind = getD s 4 0;
       locked = getD s 5 0;
-      name = take (getD s 6 0) (drop 7 s);
+      raw = take 30 (drop 42 s);
       count = wordAt s 37;
       bytes = xs;
     }
 
--- A file may have this kind, this lock, this name, and so many bytes.
+-- A file may have this kind, this lock, these name bytes, and so many bytes.
 unfoldable pub allowed : ℕ → File → Bool
 allowed size f =
-    eqb (kindOf (f .kind)) (f .kind) && (ltb (f .locked) 2 && (leb (length (f .name)) 30 && (all (λ b. ltb b 128) (f .name)
-    && (same (trimmed (f .name)) (f .name) && (eqb (f .kind) 4 || eqb size 0)))))
+    eqb (kindOf (f .kind)) (f .kind)
+    && (ltb (f .locked) 2 && (eqb (length (f .raw)) 30 && (all (λ b. ltb b 128) (shown (f .raw)) && (eqb (f .kind) 4 || eqb size 0))))
 
 -- s begins with the entry block that its own fields ask for: it is block b, with n blocks behind it
 unfoldable pub soundEntry : ℕ → ℕ → List ℕ → Bool

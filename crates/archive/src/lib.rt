@@ -1,7 +1,8 @@
 // Archives: the contents of a disk in chained blocks (document 01's return, which the Rust has not).
 ghost use mathlib.Core.Path.{_≡_};
 ghost use Rattle.archive.specs.Archive.{firstBlock};
-ghost use Rattle.archive.specs.Blocks.{nameField, entryBytes};
+ghost use Rattle.archive.specs.Blocks.{entryBytes};
+use catalog::filename;
 use lists::copy_at;
 use lists::part;
 
@@ -21,28 +22,20 @@ pub fn first_block(volume: u8, next: u16, blocks: u16) -> [u8; 256]
     block
 }
 
-// The first 30 bytes of a name, zeros behind them.
-fn name_field(name: &[u8]) -> [u8; 30]
-    ensures { λ r. ⌜ r ≡ nameField (now (name .entry)) ⌝ }
-{
-    let mut field = [0u8; 30];
-    copy_at(part(name, 0, 30), &mut field, 0);
-    field
-}
-
-// An entry block: of the name its first 30 bytes, of the size its low three bytes.
+// An entry block: of the name bytes the first 30, and the name that they show; of the size its low three bytes.
 pub fn entry_block(
     next: u16,
     first: u16,
     size: u32,
     kind: u8,
     locked: u8,
-    name: &[u8],
+    raw: &[u8],
     count: u16,
 ) -> [u8; 256]
-    ensures { λ r. ⌜ r ≡ entryBytes next first size kind locked (now (name .entry)) count ⌝ }
+    ensures { λ r. ⌜ r ≡ entryBytes next first size kind locked (now (raw .entry)) count ⌝ }
 {
-    let field = name_field(name);
+    let name = filename(raw);
+    let letters = name.letters;
     let head = [
         (next % 256) as u8,
         (next / 256 % 256) as u8,
@@ -50,7 +43,7 @@ pub fn entry_block(
         (first / 256 % 256) as u8,
         kind,
         locked,
-        part(name, 0, 30).len() as u8,
+        name.length,
     ];
     let tail = [
         (count % 256) as u8,
@@ -61,7 +54,8 @@ pub fn entry_block(
     ];
     let mut block = [0u8; 256];
     copy_at(&head, &mut block, 0);
-    copy_at(&field, &mut block, 7);
+    copy_at(&letters, &mut block, 7);
     copy_at(&tail, &mut block, 37);
+    copy_at(part(raw, 0, 30), &mut block, 42);
     block
 }

@@ -125,8 +125,8 @@ fn bad_among(raw: &[u8], n: usize) -> bool
     bad
 }
 
-// 80h stands among the 30 bytes from i on.
-fn bad_letter(disk: &[u8], i: usize) -> bool
+// 80h stands among the 30 bytes from i on, or among those that there are.
+pub fn bad_letter(disk: &[u8], i: usize) -> bool
     ensures { λ r. ⌜ r ≡ among 128 (take 30 (drop i (now (disk .entry)))) ⌝ }
 {
     let raw = part(disk, i, 30);
@@ -302,6 +302,16 @@ pub fn filename(raw: &[u8]) -> Name
         letters: letters,
         length: n as u8,
     }
+}
+
+// The name bytes of the entry from `at` on, as they stand on the disk: 30, or as many as there are.
+pub fn raw_name(disk: &[u8], at: usize) -> &[u8]
+    ensures { λ r. ⌜ now r ≡ entryFrom (now (disk .entry)) at .raw ⌝ }
+{
+    if disk.len() <= at {
+        return &disk[0..0];
+    }
+    part(disk, at + 3, 30)
 }
 
 // The entry in the 35 bytes of `disk` from `at` on; past the end stand zeros.

@@ -54,11 +54,11 @@ module _ (n : ℕ) (d : List ℕ) (x : List ℕ) where
         (num es (w .1) c (j + 1) (w .3)))
 
   -- ---- by name
-  named-here : (f : File) (fs : List File) → lastNamed x fs ≡ refused NotOnRoll → same x (f .name) ≡ true → lastNamed x (f ∷ fs) ≡ given (f .bytes)
+  named-here : (f : File) (fs : List File) → lastNamed x fs ≡ refused NotOnRoll → same x (shown (f .raw)) ≡ true → lastNamed x (f ∷ fs) ≡ given (f .bytes)
   unfolding lastNamed
   named-here f fs h b = rw (h, b) refl
 
-  named-not : (f : File) (fs : List File) → lastNamed x fs ≡ refused NotOnRoll → same x (f .name) ≡ false → lastNamed x (f ∷ fs) ≡ refused NotOnRoll
+  named-not : (f : File) (fs : List File) → lastNamed x fs ≡ refused NotOnRoll → same x (shown (f .raw)) ≡ false → lastNamed x (f ∷ fs) ≡ refused NotOnRoll
   unfolding lastNamed
   named-not f fs h b = rw (h, b) refl
 
@@ -74,7 +74,7 @@ module _ (n : ℕ) (d : List ℕ) (x : List ℕ) where
   nam k (e ∷ es) fs c j h =
       let w = each-cons (fileOf n d) e es fs h in
       let f : File = w .0 in
-      let m : f .name ≡ shown (e .raw) = ap (λ (y : File). y .name) (file-given n d e f (w .2) .3) in
+      let m : f .raw ≡ e .raw = ap (λ (y : File). y .raw) (file-given n d e f (w .2) .3) in
       ⊎-elim
       (λ i.
       by-test (same x (shown (e .raw)))

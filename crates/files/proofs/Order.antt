@@ -18,7 +18,7 @@ use Rattle.outcome.specs.Outcome.{refused, given, each, require}
 use Rattle.outcome.proofs.Outcome.{gives, refuses, then-gives, then-refuses, map-refuses, required, not-required, First, each-first, first-each, refused-given}
 use Rattle.disk.proofs.Chain.{walk-short, RingFrom, ring-is-there}
 use Rattle.disk.proofs.Places.{readable-refused, off-size, no-table}
-use Rattle.catalog.specs.Catalog.{Entry, catalog, shown}
+use Rattle.catalog.specs.Catalog.{Entry, catalog}
 use Rattle.catalog.proofs.Order.{pageWalk, pages-refused, catalog-refused, table-refuses, page-refuses}
 use Rattle.files.specs.Contents.{File, Contents, bytesIn, maxPairs, wholeLink, soundList, nextList, listWalk, lists, isPair, pairAt, pairsOf, fileOf, contents}
 
@@ -61,7 +61,7 @@ module _ (n : ℕ) (d : List ℕ) where
       record {
         kind = e .kind;
         locked = e .locked;
-        name = shown (e .raw);
+        raw = e .raw;
         count = e .count;
         bytes = bytesIn (e .kind) (flatMap (bytesOf n d) ps);
       }

@@ -16,13 +16,13 @@ use Rattle.disk.specs.declared.Place.{Place}
 use Rattle.disk.specs.Disk.{place, byteOf, linkOf, bytesOf, onDisk, sectors, sized}
 use Rattle.disk.specs.Vtoc.{vtoc}
 use Rattle.disk.specs.Chain.{walk}
-use Rattle.catalog.specs.Catalog.{Entry, catalog, shown, trimmed, kindOf}
+use Rattle.catalog.specs.Catalog.{Entry, catalog, shown, kindOf}
 
--- what a file says of itself: type, lock, shown name, sector count, bytes
+-- what a file says of itself: type, lock, the 30 name bytes as they are cut (Req 07), sector count, bytes. Its shown name is `shown` of the name bytes.
 pub record File : Type 0 where
   pub kind : ℕ
   pub locked : ℕ
-  pub name : List ℕ
+  pub raw : List ℕ
   pub count : ℕ
   pub bytes : List ℕ
 
@@ -35,9 +35,9 @@ pub record Contents : Type 0 where
 pub record Proper (f : File) : Type 0 where
   pub kind : kindOf (f .kind) ≡ f .kind
   pub locked : f .locked < 2
-  pub nameLength : length (f .name) ≤ 30
-  pub nameBytes : (k : ℕ) → getD (f .name) k 0 < 128
-  pub nameEnd : trimmed (f .name) ≡ f .name
+  pub rawLength : length (f .raw) ≡ 30
+  pub rawBytes : Bytes (f .raw)
+  pub letters : (k : ℕ) → getD (shown (f .raw)) k 0 < 128
   pub count : f .count < 65536
   pub bytes : Bytes (f .bytes)
   pub binaryOnly : (f .kind ≡ 4 → ⊥) → f .bytes ≡ []
@@ -98,7 +98,7 @@ module _ (n : ℕ) (d : List ℕ) where
       (record {
         kind = e .kind;
         locked = e .locked;
-        name = shown (e .raw);
+        raw = e .raw;
         count = e .count;
         bytes = bytesIn (e .kind) (flatMap (bytesOf n d) (flatMap pairsOf ls));
       })

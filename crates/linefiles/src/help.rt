@@ -93,6 +93,14 @@ fn notes(fd: i32) {
     );
     line(
         fd,
+        b"Two names may show alike and be cut differently, by high bits or by what stands",
+    );
+    line(
+        fd,
+        b"behind them: `list` and `show` print the bytes of such names; --raw those of all.",
+    );
+    line(
+        fd,
         b"Types: T text, I Integer BASIC, A Applesoft BASIC, B Binary, S, R relocatable,",
     );
     line(fd, b"AT, BT, U unknown. Only a Binary hands over bytes.");

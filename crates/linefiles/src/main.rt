@@ -3,6 +3,7 @@
 mod file;
 mod help;
 mod map;
+mod names;
 mod nibbles;
 mod print;
 mod sums;
@@ -65,6 +66,8 @@ const AS_13: u8 = 2;
 
 const AS_16: u8 = 3;
 
+const RAW: u8 = 4;
+
 // The exit statuses.
 const GOOD: u8 = 0;
 
@@ -105,7 +108,7 @@ fn tell_place(disk: &[u8], why: u8) {
         return;
     }
     if walk::follow_pages(disk, why) == 0 {
-        walk::follow_files(disk, why, false, b"");
+        walk::follow_files(disk, why, false, false, b"");
     }
 }
 
@@ -126,7 +129,7 @@ fn refuse_overlong(blocks: u64) -> u8 {
 }
 
 // The links of the VTOC and the pages, then the files with their lists.
-fn list_links(disk: &[u8], fetch: bool, archive: &[u8]) {
+fn list_links(disk: &[u8], fetch: bool, raw: bool, archive: &[u8]) {
     let v = disk::parse_volume_table_of_contents(disk);
     say(b"\nCatalog\n  VTOC 17/0     volume ");
     number(STDOUT_FILENO, v.diskette_volume_number as u64);
@@ -139,7 +142,7 @@ fn list_links(disk: &[u8], fetch: bool, archive: &[u8]) {
     if walk::follow_pages(disk, 0) == 0 {
         say(b"\nFiles\n");
         heads(STDOUT_FILENO);
-        walk::follow_files(disk, 0, fetch, archive);
+        walk::follow_files(disk, 0, fetch, raw, archive);
     }
 }
 
@@ -168,7 +171,7 @@ fn may_fetch(refused: u8, entries: u32, links: u64) -> bool {
     (refused == 0) & (links <= 4000000 / (entries as u64 + 1))
 }
 
-fn list(disk: &[u8]) -> u8 {
+fn list(disk: &[u8], raw: bool) -> u8 {
     let s = files::survey(disk);
     if s.refusal == NO_TABLE {
         return refuse(disk, NO_TABLE);
@@ -178,6 +181,7 @@ fn list(disk: &[u8]) -> u8 {
     list_links(
         disk,
         may_fetch(s.refusal, s.entries, s.links),
+        raw,
         lists::part(&out, 0, h.length),
     );
     if s.refusal != 0 {
@@ -284,6 +288,9 @@ fn option_of(i: usize) -> u8 {
     if lists::same(&w[..n], b"--16") {
         return AS_16;
     }
+    if lists::same(&w[..n], b"--raw") {
+        return RAW;
+    }
     0
 }
 
@@ -383,6 +390,24 @@ fn first_difference(a: &[u8], b: &[u8]) -> usize {
     i
 }
 
+// Where the bytes at which the archives differ are those of a name: how it is cut in both.
+fn tell_cut(due: &[u8], archive: &[u8], block: u64, byte: usize) {
+    if (byte < 42) | (71 < byte) {
+        return;
+    }
+    let other = reader::entry_raw_name(archive, block);
+    if (other.len() != 30) | (reader::entry_at(due, block).found == 0) {
+        return;
+    }
+    tell(b": ");
+    name(STDERR_FILENO, reader::entry_name(due, block));
+    tell(b" is cut ");
+    names::cut(STDERR_FILENO, reader::entry_raw_name(due, block));
+    tell(b" on the disk, ");
+    names::cut(STDERR_FILENO, other);
+    tell(b" in the archive");
+}
+
 // Where an archive differs from that of the disk.
 fn tell_difference(due: &[u8], archive: &[u8]) {
     let i = first_difference(due, archive);
@@ -390,7 +415,9 @@ fn tell_difference(due: &[u8], archive: &[u8]) {
     number(STDERR_FILENO, (i / 256) as u64);
     tell(b", byte ");
     number(STDERR_FILENO, (i % 256) as u64);
-    tell(b" on\n");
+    tell(b" on");
+    tell_cut(due, archive, (i / 256) as u64, i % 256);
+    tell(b"\n");
 }
 
 fn refuse_archive(disk: &[u8], archive: &[u8]) -> u8 {
@@ -440,7 +467,7 @@ fn nibblize(disk: &[u8], first: usize, force: bool) -> u8 {
 // A command on a flat disk.
 fn on_flat(command: u8, disk: &[u8], first: usize, force: bool) -> u8 {
     match command {
-        LIST => list(disk),
+        LIST => list(disk, has_option(first, RAW)),
         SURVEY => survey(disk),
         MAP => draw_map(disk),
         GET => get(disk, first, force),
@@ -603,9 +630,16 @@ fn show_entry(archive: &[u8], block: u64, e: reader::Entry) {
     say(b"\n");
 }
 
-// Steps through the entries of an archive that was opened: how many these are.
-fn show_entries(archive: &[u8], start: u64) -> u64 {
-    let mut block = start;
+// The name as it is cut, where `raw` asks for all names or another name shows alike.
+fn show_cut(archive: &[u8], first: u16, raw: bool, cut: &[u8]) {
+    if raw | names::twin_in_archive(archive, first, cut) {
+        names::line(cut);
+    }
+}
+
+// Steps through the entries of an archive that was opened, from the block `first` on: how many these are.
+fn show_entries(archive: &[u8], first: u16, raw: bool) -> u64 {
+    let mut block = first as u64;
     let mut n: u64 = 0;
     for k in 0..4096u16 {
         if block == 0 {
@@ -613,13 +647,14 @@ fn show_entries(archive: &[u8], start: u64) -> u64 {
         }
         let e = reader::next_entry(archive, block);
         show_entry(archive, block, e);
+        show_cut(archive, first, raw, reader::entry_raw_name(archive, block));
         block = e.next as u64;
         n = next(n);
     }
     n
 }
 
-fn show(from: &[u8], archive: &[u8]) -> u8 {
+fn show(from: &[u8], archive: &[u8], raw: bool) -> u8 {
     let o = reader::open(archive);
     if o.refusal != 0 {
         refusal(STDERR_FILENO, o.refusal);
@@ -635,7 +670,7 @@ fn show(from: &[u8], archive: &[u8]) -> u8 {
     count(STDOUT_FILENO, o.blocks as u64, b"block", b"blocks");
     say(b"\n\n");
     heads(STDOUT_FILENO);
-    let n = show_entries(archive, o.first as u64);
+    let n = show_entries(archive, o.first, raw);
     say(b"\n");
     count(STDOUT_FILENO, n, b"file", b"files");
     finish(b"\n")
@@ -652,7 +687,11 @@ fn act(command: u8, first: usize) -> u8 {
         return TROUBLE;
     }
     if command == SHOW {
-        return show(lists::part(&from, 0, n), lists::part(&bytes, 0, l.length));
+        return show(
+            lists::part(&from, 0, n),
+            lists::part(&bytes, 0, l.length),
+            has_option(first, RAW),
+        );
     }
     on_disk(
         command,
@@ -756,18 +795,27 @@ fn unknown_command(w: &[u8]) -> u8 {
 fn usage(command: u8) -> u8 {
     tell(b"usage: linefiles ");
     match command {
-        LIST => tell(b"list DISK [--13 | --16]"),
+        LIST => tell(b"list DISK [--raw] [--13 | --16]"),
         SURVEY => tell(b"survey DISK [--13 | --16]"),
         MAP => tell(b"map DISK [--13 | --16]"),
         GET => tell(b"get DISK NAME OUT [--force] [--13 | --16]"),
         ARCHIVE => tell(b"archive DISK OUT [--force] [--13 | --16]"),
         CHECK => tell(b"check DISK ARCHIVE [--13 | --16]"),
-        SHOW => tell(b"show ARCHIVE"),
+        SHOW => tell(b"show ARCHIVE [--raw]"),
         NIBBLIZE => tell(b"nibblize DISK OUT [--force] [--13 | --16]"),
         _ => tell(b"denibblize STREAM OUT [--force] [--13 | --16]"),
     }
     tell(b"\n       linefiles help says what it does\n");
     TROUBLE
+}
+
+// Whether --raw stands where it says nothing. Then this is said.
+fn wrong_raw(command: u8, first: usize) -> bool {
+    if (command == LIST) | ((command == SHOW) | !has_option(first, RAW)) {
+        return false;
+    }
+    tell(b"linefiles: --raw is for list and show, which print names\n");
+    true
 }
 
 // Whether the options for streams stand where they say nothing, or against each other. Then this is said.
@@ -810,6 +858,9 @@ fn run_command(command: u8, first: usize) -> u8 {
         return usage(command);
     }
     if wrong_options(command, first) {
+        return TROUBLE;
+    }
+    if wrong_raw(command, first) {
         return TROUBLE;
     }
     if command == HELP {

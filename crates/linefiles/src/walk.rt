@@ -1,5 +1,6 @@
 // The links of a disk, followed once more for people: each is shown on standard output, or the place where a refusal is met is told on standard error.
 // The library has judged the disk before; here nothing is decided.
+use crate::names;
 use crate::print::count;
 use crate::print::entry_columns;
 use crate::print::number;
@@ -16,6 +17,7 @@ use catalog::first_page;
 use catalog::last_page;
 use catalog::parse_file_entry;
 use catalog::plain_page;
+use catalog::raw_name;
 use catalog::valid_file;
 use disk::Place;
 use disk::Sector;
@@ -414,6 +416,13 @@ fn entry_line(disk: &[u8], fetch: bool, found: reader::Entry, entries: u64, e: F
     text(STDOUT_FILENO, b"\n");
 }
 
+// The name as it is cut, where `raw` asks for all names or another name shows alike.
+fn cut_line(disk: &[u8], raw: bool, name: &[u8]) {
+    if raw | names::twin_on_disk(disk, name) {
+        names::line(name);
+    }
+}
+
 // Follows the lists of an entry, then looks at its pairs.
 fn follow_file(disk: &[u8], per: u8, why: u8, entries: u64, e: FileEntry) -> u8 {
     let mut seen = [0u8; 560];
@@ -430,6 +439,7 @@ fn follow_entry(
     per: u8,
     why: u8,
     fetch: bool,
+    raw: bool,
     archive: &[u8],
     x: usize,
     s: Step,
@@ -441,6 +451,7 @@ fn follow_entry(
     let found = reader::next_entry(archive, s.block);
     if why == 0 {
         entry_line(disk, fetch, found, s.entries, e);
+        cut_line(disk, raw, raw_name(disk, x));
     }
     let refusal = follow_file(disk, per, why, s.entries, e);
     Step {
@@ -455,19 +466,22 @@ fn follow_page(
     per: u8,
     why: u8,
     fetch: bool,
+    raw: bool,
     archive: &[u8],
     p: Place,
     before: Step,
 ) -> Step {
     let mut s = before;
     for i in 0..7u8 {
-        s = follow_entry(disk, per, why, fetch, archive, entry_start(per, p, i), s);
+        let x = entry_start(per, p, i);
+        s = follow_entry(disk, per, why, fetch, raw, archive, x, s);
     }
     s
 }
 
-// Follows the entries of all pages, which were followed before: the first refusal met, or 0. `archive` is that of the disk, or empty.
-pub(crate) fn follow_files(disk: &[u8], why: u8, fetch: bool, archive: &[u8]) -> u8 {
+// Follows the entries of all pages, which were followed before: the first refusal met, or 0. `archive` is that of the disk, or empty; `raw` asks for all names as
+// they are cut.
+pub(crate) fn follow_files(disk: &[u8], why: u8, fetch: bool, raw: bool, archive: &[u8]) -> u8 {
     let per = sectors_of(disk);
     let mut p = first_page(disk, per);
     let mut s = Step {
@@ -476,7 +490,7 @@ pub(crate) fn follow_files(disk: &[u8], why: u8, fetch: bool, archive: &[u8]) ->
         block: 1,
     };
     for k in 0..560u16 {
-        s = follow_page(disk, per, why, fetch, archive, p, s);
+        s = follow_page(disk, per, why, fetch, raw, archive, p, s);
         if last_page(disk, per, p) {
             return s.refusal;
         }

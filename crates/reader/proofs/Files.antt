@@ -13,14 +13,15 @@ use Rattle.lists.specs.Words.{wordAt}
 use Rattle.lists.proofs.Words.{two}
 use Rattle.lists.specs.Every.{Every, more}
 use Rattle.outcome.specs.Outcome.{given}
+use Rattle.catalog.specs.Catalog.{shown}
 use Rattle.files.specs.Contents.{File, Contents, Proper}
 use Rattle.files.specs.Survey.{blocksFor, dataBlocks, blocksIn, blocks}
 use Rattle.archive.specs.Archive.{dataBlock, dataChain, entryBlock, ifAny, entryChain, firstBlock, archive}
 use Rattle.archive.specs.Reader.{sizeIn, entryIn, soundEntry, opened}
 use Rattle.archive.proofs.Blocks.{length-first, length-chain, length-archive, proper-short}
-use Rattle.archive.proofs.Back.{entryOf, entry-long, entry-sound, entry-size, entry-back, withBytes, link-is, chain-first, chain-cons, block-long, part-is, is-nil}
+use Rattle.archive.proofs.Back.{entryOf, entry-long, entry-sound, entry-size, entry-name, entry-back, withBytes, link-is, chain-first, chain-cons, block-long, part-is, is-nil}
 use Rattle.archive.proofs.Reader.{opened-is}
-use Rattle.reader.specs.Steps.{fieldsIn, isEntry, entryStep, fieldsOf, nameIn, dataPart, nextData}
+use Rattle.reader.specs.Steps.{fieldsIn, isEntry, entryStep, fieldsOf, nameIn, rawIn, dataPart, nextData}
 use Rattle.reader.specs.Claims.{Joins}
 use Rattle.reader.specs.Claims
 
@@ -88,7 +89,7 @@ module _ (a : List ℕ) (b : ℕ) (f : File) (fs : List File) (r : From a b (f �
   pub from-data : drop (256 * (b + 1)) a ≡ dataChain k (b + 1) (f .bytes) ++ entryChain (b + 1 + k) fs
   from-data =
       let e : 256 * (b + 1) ≡ 256 * b + 256 = omega arith in
-      rw e (sym (drop-drop 256 (256 * b) a) ∙ ap (drop 256) here ∙ drop-at (entryOf n b f) behind 256 (entry-long n b f (p .nameLength)))
+      rw e (sym (drop-drop 256 (256 * b) a) ∙ ap (drop 256) here ∙ drop-at (entryOf n b f) behind 256 (entry-long n b f (p .rawLength)))
 
   -- the next file
   pub from-next : From a (b + 1 + k) fs
@@ -130,14 +131,18 @@ module _ (a : List ℕ) (b : ℕ) (f : File) (fs : List File) (r : From a b (f �
   unfolding entryBlock padded
   first-is = two-back (cond (eqb k 0) 0 (b + 1)) (link-small (eqb k 0) (b + 1) (omega (arith, all-few)))
 
-  length-is : getD (entryOf n b f ++ behind) 6 0 ≡ length (f .name)
+  length-is : getD (entryOf n b f ++ behind) 6 0 ≡ length (shown (f .raw))
   unfolding entryBlock padded
   length-is = refl
 
-  -- the name
-  pub from-name : nameIn a b ≡ f .name
+  -- the name, as it is shown ..
+  pub from-name : nameIn a b ≡ shown (f .raw)
+  from-name = rw (here, length-is) (entry-name _ _ (length (f .bytes)) f (p .rawLength) behind)
+
+  -- .. and as it is cut
+  pub from-raw : rawIn a b ≡ f .raw
   unfolding entryIn
-  from-name = ap (λ (g : File). g .name) file
+  from-raw = ap (λ (g : File). g .raw) file
 
   -- the step
   pub from-step : entryStep a b ≡ fieldsOf b f fs
@@ -148,8 +153,8 @@ module _ (a : List ℕ) (b : ℕ) (f : File) (fs : List File) (r : From a b (f �
       let e₃ : wordAt (drop (256 * b) a) 37 ≡ f .count = ap (λ (g : File). g .count) file in
       let e₄ : wordAt (drop (256 * b) a) 0 ≡ ifAny fs (b + 1 + k) = ap (λ (s : List ℕ). wordAt s 0) here ∙ next-is ∙ sym (link-is fs k n (b + 1 + k) refl) in
       let e₅ : wordAt (drop (256 * b) a) 2 ≡ cond (eqb k 0) 0 (b + 1) = ap (λ (s : List ℕ). wordAt s 2) here ∙ first-is in
-      let e₆ : getD (drop (256 * b) a) 6 0 ≡ length (f .name) = ap (λ (s : List ℕ). getD s 6 0) here ∙ length-is in
-      let e₇ : sizeIn (drop (256 * b) a) ≡ length (f .bytes) = ap sizeIn here ∙ entry-size _ _ _ f (p .nameLength) behind small in
+      let e₆ : getD (drop (256 * b) a) 6 0 ≡ length (shown (f .raw)) = ap (λ (s : List ℕ). getD s 6 0) here ∙ length-is in
+      let e₇ : sizeIn (drop (256 * b) a) ≡ length (f .bytes) = ap sizeIn here ∙ entry-size _ _ _ f (p .rawLength) behind small in
       rw is-entry
       (λ i.
       record {

@@ -22,7 +22,7 @@ use Rattle.archive.proofs.Blocks.{length-archive, proper-short}
 use Rattle.archive.proofs.Reader.{opened-is}
 use Rattle.reader.specs.declared.Opened.{Opened}
 use Rattle.reader.specs.declared.Entry.{Entry}
-use Rattle.reader.specs.Steps.{notOpened, openedWith, noEntry, fieldsIn, isEntry, entryStep, nameIn, dataPart, nextData}
+use Rattle.reader.specs.Steps.{notOpened, openedWith, noEntry, fieldsIn, isEntry, entryStep, nameIn, rawIn, dataPart, nextData}
 
 -- ---- opening
 -- the entries refuse
@@ -100,10 +100,13 @@ module _ (a : List ℕ) (b : ℕ) where
   pub name-read : (s r : List ℕ) (m : ℕ) → s ≡ drop (256 * b) a → m ≡ getD s 6 0 → r ≡ take m (drop 7 s) → r ≡ nameIn a b
   name-read s r m q e k = k ∙ rw (e, q) refl
 
+  pub raw-read : (s r : List ℕ) → s ≡ drop (256 * b) a → r ≡ take 30 (drop 42 s) → r ≡ rawIn a b
+  raw-read s r q k = k ∙ rw q refl
+
   pub data-read : (s y r : List ℕ) (left : ℕ) → s ≡ drop (256 * b) a → y ≡ take 254 (drop 2 s) → r ≡ take left (drop 0 y) → r ≡ dataPart a b left
   data-read s y r left q e k = k ∙ rw (e, q) refl
 
   pub next-read : (s : List ℕ) (r : ℕ) → s ≡ drop (256 * b) a → r ≡ wordAt s 0 → r ≡ nextData a b
   next-read s r q k = k ∙ rw q refl
 
-pub ruleset steps = (fields-are, entry-zero, entry-far, entry-near, step-some, step-none, name-read, data-read, next-read, not-true, not-false, needs)
+pub ruleset steps = (fields-are, entry-zero, entry-far, entry-near, step-some, step-none, name-read, raw-read, data-read, next-read, not-true, not-false, needs)

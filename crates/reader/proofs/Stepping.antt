@@ -17,7 +17,7 @@ use Rattle.reader.specs.declared.Entry.{Entry}
 use Rattle.reader.specs.Steps.{openedWith, noEntry, isEntry, entryStep, fieldsOf, entryOf, entryWith}
 use Rattle.reader.specs.Claims.{Joins, Shows, Stepped}
 use Rattle.reader.specs.Claims
-use Rattle.reader.proofs.Files.{From, from-first, from-data, from-next, from-name, from-step, joins}
+use Rattle.reader.proofs.Files.{From, from-first, from-data, from-next, from-name, from-raw, from-step, joins}
 
 -- a step that answers a file's fields shows the file
 shows : (step : ℕ → Entry) (a : List ℕ) (b : ℕ) (f : File) (fs : List File) → From a b (f ∷ fs) → step b ≡ fieldsOf b f fs → Shows step a b f
@@ -33,6 +33,7 @@ shows step a b f fs r e =
       locked = ap (λ (v : Entry). v .locked) e;
       nameLength = ap (λ (v : Entry). v .«name_length») e;
       name = from-name a b f fs r;
+      raw = from-raw a b f fs r;
       count = ap (λ (v : Entry). v .count) e;
       size = ap (λ (v : Entry). v .size) e;
       bytes = rw (ap (λ (v : Entry). v .first) e) j;

@@ -8,24 +8,28 @@ use native.Mathlib.Numerals.{add-one}
 use lib.ListN.{length, getD, take, drop, length-append, length-drop, length-take, drop-of-length-le, replicate}
 use lib.Seq.{drop-cons, drop-drop, take-add, take-all, take-take}
 use lib.Dec.{eqb, leb, ltb}
-use borrow.Author.Tests.{eq-eqb, ne-eqb, eqb-true, eqb-false, lt-ltb, le-ltb, le-leb, lt-leb, leb-true, not-true, not-false}
+use borrow.Author.Tests.{eq-eqb, ne-eqb, eqb-true, le-leb, lt-leb, not-true, not-false}
 use borrow.Author.Needs.{needs}
 use mir.Val.{Fits}
 use mir.Syntax.{w8}
 use Rattle.lists.specs.Fill.{padded}
-use Rattle.lists.specs.Select.{all}
+use Rattle.lists.specs.Select.{all, among}
 use Rattle.lists.specs.Same.{same}
 use Rattle.lists.specs.Words.{wordAt, le2, le3}
 use Rattle.lists.proofs.Laws.{length-padded}
-use Rattle.lists.proofs.Split.{by-test, both-true}
+use Rattle.lists.proofs.Split.{by-test, both-true, and-assoc, and-true}
+use Rattle.lists.proofs.Bounds.{at-part}
 use Rattle.lists.proofs.Equal.{same-refl, same-length, same-append}
-use Rattle.catalog.specs.Catalog.{kindOf, isNil, trimmed}
+use Rattle.catalog.specs.declared.Name.{Name}
+use Rattle.catalog.specs.Catalog.{kindOf, shown}
+use Rattle.catalog.specs.Listing.{nameOf}
+use Rattle.catalog.proofs.Names.{shown-short, plain-is}
 use Rattle.files.specs.Contents.{File}
 use Rattle.files.specs.Survey.{blocksFor}
 use Rattle.archive.specs.Archive.{dataBlock, entryBlock, firstBlock}
 use Rattle.archive.proofs.Blocks.{length-data, length-entry}
 use Rattle.archive.specs.Reader.{sizeIn, entryIn, allowed, soundEntry, partIn, soundData, soundFirst}
-use Rattle.reader.specs.Tests.{plainFile, linksDue, blankEntry}
+use Rattle.reader.specs.Tests.{linksDue, nameDue, blankEntry}
 
 -- ---- the bytes from a block on
 pub from-past : (a : List ℕ) (b n : ℕ) → n ≡ length a → n / 256 < b → [] ≡ drop (256 * b) a
@@ -34,70 +38,6 @@ from-past a b n e h = sym (drop-of-length-le a {i = 256 * b} (omega arith))
 pub from-whole : (a : List ℕ) (b n : ℕ) → n ≡ length a → take (n - 256 * b) (drop (256 * b) a) ≡ drop (256 * b) a
 from-whole a b n e = take-all (n - 256 * b) (drop (256 * b) a) (rw (length-drop, e) (omega arith))
 
--- ---- a name's bytes
-abbrev low : List ℕ → Bool
-low = all (λ b. ltb b 128)
-
--- the first k pass
-pub record Plain (name : List ℕ) (k : ℕ) : Type 0 where
-  pub is : low name ≡ low (drop k name)
-
-pub plain-none : (name : List ℕ) → Plain name 0
-plain-none name = record { is = refl }
-
-pub plain-more : (name : List ℕ) (k : ℕ) → Plain name k → k < length name → getD name k 0 < 128 → Plain name (k + 1)
-unfolding all
-plain-more name k p h l = record { is = p .is ∙ rw (drop-cons name k 0 h, lt-ltb _ _ l, add-one k) refl }
-
-pub plain-not : (name : List ℕ) (k : ℕ) → Plain name k → k < length name → 128 ≤ getD name k 0 → false ≡ all (λ b. ltb b 128) name
-unfolding all
-plain-not name k p h l = sym (p .is ∙ rw (drop-cons name k 0 h, le-ltb _ _ l) refl)
-
-pub plain-all : (name : List ℕ) (k : ℕ) → Plain name k → length name ≤ k → true ≡ all (λ b. ltb b 128) name
-unfolding all
-plain-all name k p h = sym (p .is ∙ rw (drop-of-length-le name {i = k} h) refl)
-
--- ---- its end
-stays : (name : List ℕ) (k : ℕ) → length name ≡ suc k → (getD name k 0 ≡ 32 → ⊥) → trimmed name ≡ name
-unfolding trimmed
-stays [] k e h = absurd (omega arith)
-stays (b ∷ []) zero e h = rw (ne-eqb b 32 h) refl
-stays (b ∷ []) (suc k) e h = absurd (omega arith)
-stays (b ∷ (x ∷ l)) zero e h = absurd (omega arith)
-stays (b ∷ (x ∷ l)) (suc k) e h = rw (stays (x ∷ l) k (omega arith) h) (by-test (eqb b 32) (λ q. rw q refl) (λ q. rw q refl))
-
-goes : (name : List ℕ) (k : ℕ) → length name ≡ suc k → getD name k 0 ≡ 32 → length (trimmed name) < length name
-unfolding trimmed
-goes [] k e h = absurd (omega arith)
-goes (b ∷ []) zero e h = rw (eq-eqb b 32 h) (omega arith)
-goes (b ∷ []) (suc k) e h = absurd (omega arith)
-goes (b ∷ (x ∷ l)) zero e h = absurd (omega arith)
-goes (b ∷ (x ∷ l)) (suc k) e h =
-    let i = goes (x ∷ l) k (omega arith) h in
-    by-test (eqb b 32 && isNil (trimmed (x ∷ l))) (λ q. rw q (omega arith)) (λ q. rw q (omega arith))
-
-module _ (name : List ℕ) where
-  pub end-none : length name ≡ 0 → true ≡ same (trimmed name) name
-  unfolding trimmed same
-  end-none e = go name e
-    where
-      go : (l : List ℕ) → length l ≡ 0 → true ≡ same (trimmed l) l
-      go [] e = refl
-      go (x ∷ l) e = absurd (omega arith)
-
-  pub end-is : (length name ≡ 0 → ⊥) → not (eqb (getD name (length name - 1) 0) 32) ≡ same (trimmed name) name
-  end-is h =
-      let e : length name ≡ suc (length name - 1) = omega arith in
-      by-test (eqb (getD name (length name - 1) 0) 32)
-      (λ q. rw q (same-length (trimmed name) name (λ z. omega (arith, goes name (length name - 1) e (eqb-true _ _ q)))))
-      (λ q. rw (q, stays name (length name - 1) e (eqb-false _ _ q)) (sym (same-refl name)))
-
--- ---- a file's fields
-pub allowed-is : (kind locked size k : ℕ) (name : List ℕ) (p q : Bool) → k ≡ kindOf kind → p ≡ all (λ b. ltb b 128) name → q ≡ same (trimmed name) name
-    → (eqb k kind && (ltb locked 2 && (leb (length name) 30 && (p && (q && (eqb kind 4 || eqb size 0)))))) ≡ allowed size (plainFile kind locked name)
-unfolding allowed
-allowed-is kind locked size k name p q e f g = rw (e, f, g) refl
-
 -- ---- a link
 pub link-none : (t : Bool) (b : ℕ) → t ≡ true → 0 ≡ cond t 0 b % 65536
 link-none t b e = rw e refl
@@ -105,7 +45,7 @@ link-none t b e = rw e refl
 pub link-some : (t : Bool) (b : ℕ) → t ≡ false → b % 65536 ≡ cond t 0 b % 65536
 link-some t b e = rw e refl
 
-pub ruleset fields = (from-past, from-whole, plain-none, plain-more, plain-not, plain-all, end-none, end-is, allowed-is, link-none, link-some, needs)
+pub ruleset fields = (from-past, from-whole, link-none, link-some, needs)
 
 -- two bytes of it
 low-byte : (x : ℕ) → x % 65536 % 256 ≡ x % 256
@@ -116,19 +56,22 @@ high-byte x = omega arith
 
 -- ---- an entry block
 -- the fields of the file that s begins with
-pub allowed-in : (s : List ℕ) (size kind locked m : ℕ) (name : List ℕ) (r : Bool) → m ≡ getD s 6 0 → name ≡ take m (drop 7 s) → kind ≡ getD s 4 0 → locked ≡ getD s 5 0
-    → size ≡ sizeIn s → r ≡ allowed size (plainFile kind locked name) → r ≡ allowed (sizeIn s) (entryIn s [])
+pub allowed-is : (s : List ℕ) (kind locked size k : ℕ) (raw : List ℕ) (w : Bool) → ((k : ℕ) → Fits w8 (getD s k 0)) → kind ≡ getD s 4 0 → k ≡ kindOf kind
+    → locked ≡ getD s 5 0 → raw ≡ take 30 (drop 42 s) → w ≡ among 128 (take 30 (drop 42 s)) → size ≡ sizeIn s
+    → (eqb k kind && (ltb locked 2 && (eqb (length raw) 30 && (not w && (eqb kind 4 || eqb size 0))))) ≡ allowed (sizeIn s) (entryIn s [])
 unfolding allowed entryIn
-allowed-in s size kind locked m name r w x u v z y = y ∙ rw (x, w, u, v, z) refl
+allowed-is s kind locked size k raw w g u v l x y z =
+    let p = plain-is (take 30 (drop 42 s)) (at-part (λ b. b < 256) (omega arith) 30 42 s (λ i. omega (arith, g i))) in
+    rw (v, u, l, x, y, z, p) refl
 
--- what is allowed has a name of at most 30 bytes
-short-name : (size : ℕ) (f : File) → allowed size f ≡ true → length (f .name) ≤ 30
+-- what is allowed has 30 name bytes
+long-raw : (size : ℕ) (f : File) → allowed size f ≡ true → length (f .raw) ≡ 30
 unfolding allowed
-short-name size f e =
+long-raw size f e =
     let p₁ = both-true (eqb (kindOf (f .kind)) (f .kind)) _ e in
     let p₂ = both-true (ltb (f .locked) 2) _ (p₁ .1) in
-    let p₃ = both-true (leb (length (f .name)) 30) _ (p₂ .1) in
-    leb-true _ _ (p₃ .0)
+    let p₃ = both-true (eqb (length (f .raw)) 30) _ (p₂ .1) in
+    eqb-true _ _ (p₃ .0)
 
 -- ---- zeros
 -- the first k pass
@@ -191,17 +134,20 @@ three-same a b c h k l =
 
 module _ (s : List ℕ) (h : 256 ≤ length s) where
   -- the block
-  block-is : take 256 s ≡ take 4 s ++ (take 3 (drop 4 s) ++ (take 30 (drop 7 s) ++ (take 5 (drop 37 s) ++ take 214 (drop 42 s))))
+  block-is : take 256 s ≡ take 4 s ++ (take 3 (drop 4 s) ++ (take 30 (drop 7 s) ++ (take 5 (drop 37 s) ++ (take 30 (drop 42 s) ++ take 184 (drop 72 s)))))
   block-is =
       take-add 4 252 s ∙ ap (λ (x : List ℕ). take 4 s ++ x)
       (take-add 3 249 (drop 4 s) ∙ rw (drop-drop 3 4 s)
       (ap (λ (x : List ℕ). take 3 (drop 4 s) ++ x)
       (take-add 30 219 (drop 7 s) ∙ rw (drop-drop 30 7 s)
-      (ap (λ (x : List ℕ). take 30 (drop 7 s) ++ x) (take-add 5 214 (drop 37 s) ∙ rw (drop-drop 5 37 s) refl)))))
+      (ap (λ (x : List ℕ). take 30 (drop 7 s) ++ x)
+      (take-add 5 214 (drop 37 s) ∙ rw (drop-drop 5 37 s)
+      (ap (λ (x : List ℕ). take 5 (drop 37 s) ++ x) (take-add 30 184 (drop 42 s) ∙ rw (drop-drop 30 42 s) refl)))))))
 
-  -- three of its fields, and the other two, are what they say
-  fields-same : (m : ℕ) → m ≡ getD s 6 0 → same (take 3 (drop 4 s)) (getD s 4 0 ∷ getD s 5 0 ∷ m ∷ []) ≡ true
-  fields-same m e = rw (three-of s 4 (omega arith), e) (same-refl (getD s 4 0 ∷ getD s 5 0 ∷ getD s 6 0 ∷ []))
+  -- type and lock are what they say, the name's length is tested, and the two numbers are what they say
+  fields-same : (m : ℕ) → same (take 3 (drop 4 s)) (getD s 4 0 ∷ getD s 5 0 ∷ m ∷ []) ≡ eqb (getD s 6 0) m
+  unfolding same
+  fields-same m = rw (three-of s 4 (omega arith), eq-eqb (getD s 4 0) (getD s 4 0) refl, eq-eqb (getD s 5 0) (getD s 5 0) refl) (and-true (eqb (getD s 6 0) m))
 
   numbers-same : ((k : ℕ) → Fits w8 (getD s k 0)) → same (take 5 (drop 37 s)) (le2 (wordAt s 37) ++ le3 (sizeIn s)) ≡ true
   numbers-same g =
@@ -214,35 +160,29 @@ module _ (s : List ℕ) (h : 256 ≤ length s) where
       ap (λ (x : List ℕ). x ++ le3 (sizeIn s)) e ∙ ap (λ (x : List ℕ). getD s 37 0 ∷ getD s 38 0 ∷ x) f in
       ap (λ (x : List ℕ). same x (le2 (wordAt s 37) ++ le3 (sizeIn s))) d ∙ ap (same five) r ∙ same-refl five
 
-  -- the name, and zeros behind it
-  name-same : (m : ℕ) → m ≤ 30 → same (take 30 (drop 7 s)) (padded 30 (take m (drop 7 s))) ≡ all (λ b. eqb b 0) (drop m (take 30 (drop 7 s)))
-  unfolding padded
-  name-same m l =
-      let y : List ℕ = take 30 (drop 7 s) in
-      let e : length y ≡ 30 = rw (length-take, length-drop) (omega arith) in
-      let q : take m (drop 7 s) ≡ take m y = sym (take-take m 30 (drop 7 s) l) in
-      let z : 30 - length (take m y) ≡ length y - length (take m y) = omega arith in
-      rw (q, z) (same-front m y)
-
   -- zeros behind all
-  rest-same : same (take 214 (drop 42 s)) (replicate 214 0) ≡ all (λ b. eqb b 0) (take 214 (drop 42 s))
+  rest-same : same (take 184 (drop 72 s)) (replicate 184 0) ≡ blankEntry s
+  unfolding blankEntry
   rest-same =
-      let e : length (take 214 (drop 42 s)) ≡ 214 = rw (length-take, length-drop) (omega arith) in
-      ap (λ (n : ℕ). same (take 214 (drop 42 s)) (replicate n 0)) (sym e) ∙ same-zeros (take 214 (drop 42 s))
+      let e : length (take 184 (drop 72 s)) ≡ 184 = rw (length-take, length-drop) (omega arith) in
+      ap (λ (n : ℕ). same (take 184 (drop 72 s)) (replicate n 0)) (sym e) ∙ same-zeros (take 184 (drop 72 s))
 
 -- the block that is due
-due-parts : (x y size : ℕ) (f : File) → length (f .name) ≤ 30
+due-parts : (x y size : ℕ) (f : File) → length (f .raw) ≡ 30
     → entryBlock x y size f
-    ≡ (le2 x ++ le2 y) ++ ((f .kind ∷ f .locked ∷ length (f .name) ∷ []) ++ (padded 30 (f .name) ++ ((le2 (f .count) ++ le3 size) ++ replicate 214 0)))
+    ≡ (le2 x ++ le2 y)
+    ++ ((f .kind ∷ f .locked ∷ length (shown (f .raw)) ∷ []) ++ (padded 30 (shown (f .raw)) ++ ((le2 (f .count) ++ le3 size) ++ (f .raw ++ replicate 184 0))))
 unfolding entryBlock
 due-parts x y size f h =
-    let P : List ℕ = padded 30 (f .name) in
-    let C : List ℕ = le2 (f .count) ++ le3 size in
-    let l : length P ≡ 30 = length-padded 30 (f .name) h in
-    let X : List ℕ = le2 x ++ (le2 y ++ (f .kind ∷ f .locked ∷ length (f .name) ∷ P ++ C)) in
-    let m : 256 - length X ≡ 214 = omega (arith, length-append P C) in
+    let name : List ℕ = shown (f .raw) in
+    let s = shown-short (f .raw) in
+    let P : List ℕ = padded 30 name in
+    let C : List ℕ = le2 (f .count) ++ (le3 size ++ f .raw) in
+    let l : length P ≡ 30 = length-padded 30 name (omega arith) in
+    let X : List ℕ = le2 x ++ (le2 y ++ (f .kind ∷ f .locked ∷ length name ∷ P ++ C)) in
+    let m : 256 - length X ≡ 184 = omega (arith, length-append P C) in
     let e : padded 256 X ≡ X ++ replicate (256 - length X) 0 = unfold padded in refl in
-    e ∙ rw m (rw (append-assoc P C (replicate {A = ℕ} 214 0)) refl)
+    e ∙ rw m (rw (append-assoc P C (replicate {A = ℕ} 184 0)) refl)
 
 -- the test in its parts
 module _ (s : List ℕ) (n b : ℕ) where
@@ -255,35 +195,39 @@ module _ (s : List ℕ) (n b : ℕ) where
       (λ a.
       rw a
       (same-length (take 256 s) (entryBlock (cond (eqb k n) 0 (b + 1 + k)) (cond (eqb k 0) 0 (b + 1)) (sizeIn s) f)
-      (λ q. omega (arith, length-entry (cond (eqb k n) 0 (b + 1 + k)) (cond (eqb k 0) 0 (b + 1)) (sizeIn s) f (short-name (sizeIn s) f a), length-take 256 s))))
+      (λ q. omega (arith, length-entry (cond (eqb k n) 0 (b + 1 + k)) (cond (eqb k 0) 0 (b + 1)) (sizeIn s) f (omega (arith, long-raw (sizeIn s) f a)), length-take 256 s))))
       (λ a. rw a refl)
 
   -- the block asked for, part by part
   entry-parts : 256 ≤ length s → ((k : ℕ) → Fits w8 (getD s k 0)) → allowed (sizeIn s) (entryIn s []) ≡ true
-      → soundEntry n b s ≡ (same (take 4 s) (linksDue n b s) && blankEntry s)
-  unfolding soundEntry linksDue blankEntry entryIn
+      → soundEntry n b s ≡ (same (take 4 s) (linksDue n b s) && (nameDue s && blankEntry s))
+  unfolding soundEntry linksDue nameDue entryIn
   entry-parts h g a =
       let k = blocksFor (sizeIn s) in
       let x = cond (eqb k n) 0 (b + 1 + k) in
       let y = cond (eqb k 0) 0 (b + 1) in
-      let m = getD s 6 0 in
-      let name : List ℕ = take m (drop 7 s) in
-      let l : length name ≤ 30 = short-name (sizeIn s) (entryIn s []) a in
-      let i : length name ≡ m = omega (arith, length-take m (drop 7 s), length-drop 7 s) in
-      let z : List ℕ = replicate 214 0 in
+      let raw : List ℕ = take 30 (drop 42 s) in
+      let name : List ℕ = shown raw in
+      let r : length raw ≡ 30 = long-raw (sizeIn s) (entryIn s []) a in
+      let i = shown-short raw in
+      let z : List ℕ = replicate 184 0 in
       let nums : List ℕ = le2 (wordAt s 37) ++ le3 (sizeIn s) in
-      let e₄ : same (take 5 (drop 37 s) ++ take 214 (drop 42 s)) (nums ++ z) ≡ all (λ b. eqb b 0) (take 214 (drop 42 s)) =
-      same-append (take 5 (drop 37 s)) (take 214 (drop 42 s)) nums z (rw (length-take, length-drop) (omega arith)) ∙ rw (numbers-same s h g, rest-same s h) refl in
-      let e₃ : same (take 30 (drop 7 s) ++ (take 5 (drop 37 s) ++ take 214 (drop 42 s))) (padded 30 name ++ (nums ++ z)) ≡ blankEntry s =
-      same-append (take 30 (drop 7 s)) _ (padded 30 name) _ (rw (length-take, length-drop, length-padded 30 name l) (omega arith))
-      ∙ rw (name-same s h m (omega arith), e₄) refl in
-      let u : List ℕ = take 30 (drop 7 s) ++ (take 5 (drop 37 s) ++ take 214 (drop 42 s)) in
-      let v : List ℕ = padded 30 name ++ (nums ++ z) in
+      let e₅ : same (raw ++ take 184 (drop 72 s)) (raw ++ z) ≡ blankEntry s =
+      same-append raw (take 184 (drop 72 s)) raw z refl ∙ rw (same-refl raw, rest-same s h) refl in
+      let e₄ : same (take 5 (drop 37 s) ++ (raw ++ take 184 (drop 72 s))) (nums ++ (raw ++ z)) ≡ blankEntry s =
+      same-append (take 5 (drop 37 s)) (raw ++ take 184 (drop 72 s)) nums (raw ++ z) (rw (length-take, length-drop) (omega arith)) ∙ rw (numbers-same s h g, e₅) refl in
+      let e₃ : same (take 30 (drop 7 s) ++ (take 5 (drop 37 s) ++ (raw ++ take 184 (drop 72 s)))) (padded 30 name ++ (nums ++ (raw ++ z)))
+      ≡ (same (take 30 (drop 7 s)) (padded 30 name) && blankEntry s) =
+      same-append (take 30 (drop 7 s)) _ (padded 30 name) _ (rw (length-take, length-drop, length-padded 30 name (omega arith)) (omega arith))
+      ∙ ap (λ (t : Bool). same (take 30 (drop 7 s)) (padded 30 name) && t) e₄ in
+      let u : List ℕ = take 30 (drop 7 s) ++ (take 5 (drop 37 s) ++ (raw ++ take 184 (drop 72 s))) in
+      let v : List ℕ = padded 30 name ++ (nums ++ (raw ++ z)) in
       let w : List ℕ = getD s 4 0 ∷ getD s 5 0 ∷ length name ∷ [] in
-      let e₂ : same (take 3 (drop 4 s) ++ u) (w ++ v) ≡ blankEntry s =
-      same-append (take 3 (drop 4 s)) u w v (rw (length-take, length-drop) (omega arith)) ∙ rw (fields-same s h (length name) i, e₃) refl in
+      let e₂ : same (take 3 (drop 4 s) ++ u) (w ++ v) ≡ (nameDue s && blankEntry s) =
+      same-append (take 3 (drop 4 s)) u w v (rw (length-take, length-drop) (omega arith)) ∙ rw (fields-same s h (length name), e₃)
+      (and-assoc (eqb (getD s 6 0) (length name)) (same (take 30 (drop 7 s)) (padded 30 name)) (blankEntry s)) in
       let e₁ = same-append (take 4 s) (take 3 (drop 4 s) ++ u) (le2 x ++ le2 y) (w ++ v) (rw length-take (omega arith)) ∙ ap (λ (t : Bool). same (take 4 s) (le2 x ++ le2 y) && t) e₂ in
-      rw (a, block-is s h, due-parts x y (sizeIn s) (entryIn s []) l) e₁
+      rw (a, block-is s h, due-parts x y (sizeIn s) (entryIn s []) r) e₁
 
   -- its returns
   module _ (t : Bool) (y : t ≡ allowed (sizeIn s) (entryIn s [])) where
@@ -295,8 +239,12 @@ module _ (s : List ℕ) (n b : ℕ) where
       pub entry-off : u ≡ false → false ≡ soundEntry n b s
       entry-off z = sym (entry-parts h g (sym y ∙ e) ∙ rw (← o, z) refl)
 
-      pub entry-is : (r : Bool) → u ≡ true → r ≡ blankEntry s → r ≡ soundEntry n b s
-      entry-is r z k = k ∙ sym (entry-parts h g (sym y ∙ e) ∙ rw (← o, z) refl)
+      module _ (v : Bool) (z : u ≡ true) (i : v ≡ nameDue s) where
+        pub entry-misnamed : v ≡ false → false ≡ soundEntry n b s
+        entry-misnamed j = sym (entry-parts h g (sym y ∙ e) ∙ rw (← o, z, ← i, j) refl)
+
+        pub entry-is : (r : Bool) → v ≡ true → r ≡ blankEntry s → r ≡ soundEntry n b s
+        entry-is r j k = k ∙ sym (entry-parts h g (sym y ∙ e) ∙ rw (← o, z, ← i, j) refl)
 
 -- the links
 pub links-are : (s : List ℕ) (n b size next first : ℕ) (p : List ℕ) (r : Bool) → size ≡ sizeIn s
@@ -309,14 +257,18 @@ links-are s n b size next first p r z f g q o =
     let y : ℕ = cond (eqb k 0) 0 (b + 1) in
     o ∙ rw (f, g, q, z, low-byte x, high-byte x, low-byte y, high-byte y) refl
 
+-- the name
+pub name-are : (s raw y : List ℕ) (w : Name) (m : ℕ) (r : Bool) → raw ≡ take 30 (drop 42 s) → w ≡ nameOf (take 30 raw) → m ≡ getD s 6 0 → y ≡ take 30 (drop 7 s)
+    → r ≡ same y (w .letters) → (eqb m (w .length) && r) ≡ nameDue s
+unfolding nameDue
+name-are s raw y w m r e f g i o =
+    let q : take 30 raw ≡ take 30 (drop 42 s) = rw e (take-take 30 30 (drop 42 s) (omega arith)) in
+    rw (o, f, q, g, i) refl
+
 -- the zeros
-pub blank-are : (s y x z : List ℕ) (m : ℕ) (r q : Bool) → y ≡ take 30 (drop 7 s) → m ≡ getD s 6 0 → x ≡ take 30 (drop m y) → r ≡ all (λ b. eqb b 0) x
-    → z ≡ take 214 (drop 42 s) → q ≡ all (λ b. eqb b 0) z → (r && q) ≡ blankEntry s
+pub blank-are : (s z : List ℕ) (q : Bool) → z ≡ take 184 (drop 72 s) → q ≡ all (λ b. eqb b 0) z → q ≡ blankEntry s
 unfolding blankEntry
-blank-are s y x z m r q e f g i j k =
-    let l : length (drop m y) ≤ 30 = rw (length-drop, e, length-take) (omega arith) in
-    let w : x ≡ drop (getD s 6 0) (take 30 (drop 7 s)) = g ∙ take-all 30 (drop m y) l ∙ rw (e, f) refl in
-    rw (i, k, w, j) refl
+blank-are s z q j k = k ∙ rw j refl
 
 -- ---- a data block
 pub data-short : (s : List ℕ) (b size : ℕ) → length s < 256 → false ≡ soundData b size s
@@ -368,4 +320,4 @@ module _ (a : List ℕ) (n : ℕ) where
       let m : next ≡ cond (eqb 0 n) 0 1 = g ∙ by-test (eqb 0 n) (λ e. rw e refl) (λ e. rw e refl) in
       o ∙ rw (eq-eqb _ _ e, le-leb (1 + n) 4096 (omega arith), l, q, f, m) refl
 
-pub ruleset blocks = (allowed-in, entry-short, entry-not, entry-off, entry-is, links-are, blank-are, data-short, data-not, data-is, first-many, first-off, first-is, not-true, not-false, needs)
+pub ruleset blocks = (allowed-is, entry-short, entry-not, entry-off, entry-misnamed, entry-is, links-are, name-are, blank-are, data-short, data-not, data-is, first-many, first-off, first-is, not-true, not-false, needs)

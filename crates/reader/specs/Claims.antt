@@ -1,5 +1,5 @@
 -- What is promised of the reader's calls together: document 01, "Return", its lines on the reader. `openedWith (opened a)` is what opening answers,
--- `entryStep a` and `entryWith (opened a)` what the two steps answer, `nameIn`, `dataPart` and `nextData` are the parts that a display is lent.
+-- `entryStep a` and `entryWith (opened a)` what the two steps answer, `nameIn`, `rawIn`, `dataPart` and `nextData` are the parts that a display is lent.
 use mathlib.Core.Path.{_≡_}
 use mathlib.Core.Logic.{_↔_}
 use mathlib.Core.List.{List, [], _∷_, _++_}
@@ -8,12 +8,13 @@ use lib.ListN.{length}
 use Rattle.lists.specs.Fill.{Bytes}
 use Rattle.lists.specs.Every.{Every}
 use Rattle.outcome.specs.Outcome.{given}
+use Rattle.catalog.specs.Catalog.{shown}
 use Rattle.files.specs.Contents.{File, Contents, Proper}
 use Rattle.files.specs.Survey.{blocks}
 use Rattle.archive.specs.Archive.{archive}
 use Rattle.archive.specs.Reader.{opened}
 use Rattle.reader.specs.declared.Entry.{Entry}
-use Rattle.reader.specs.Steps.{openedWith, noEntry, entryStep, entryWith, nameIn, dataPart, nextData}
+use Rattle.reader.specs.Steps.{openedWith, noEntry, entryStep, entryWith, nameIn, rawIn, dataPart, nextData}
 
 -- from block b on, `left` bytes being left, the parts of the data blocks join to xs, and with them the chain ends
 pub data Joins (a : List ℕ) : ℕ → ℕ → List ℕ → Type 0 where
@@ -26,8 +27,9 @@ pub record Shows (step : ℕ → Entry) (a : List ℕ) (b : ℕ) (f : File) : Ty
   pub found : step b .found ≡ 1
   pub kind : step b .kind ≡ f .kind
   pub locked : step b .locked ≡ f .locked
-  pub nameLength : step b .«name_length» ≡ length (f .name)
-  pub name : nameIn a b ≡ f .name
+  pub nameLength : step b .«name_length» ≡ length (shown (f .raw))
+  pub name : nameIn a b ≡ shown (f .raw)
+  pub raw : rawIn a b ≡ f .raw
   pub count : step b .count ≡ f .count
   pub size : step b .size ≡ length (f .bytes)
   pub bytes : Joins a (step b .first) (length (f .bytes)) (f .bytes)

@@ -7,6 +7,7 @@ use lib.Dec.{ltb, eqb}
 use Rattle.lists.specs.Words.{wordAt}
 use Rattle.outcome.specs.Refusal.{code}
 use Rattle.outcome.specs.Outcome.{Outcome, refused, given}
+use Rattle.catalog.specs.Catalog.{shown}
 use Rattle.files.specs.Contents.{File, Contents}
 use Rattle.files.specs.Survey.{dataBlocks, blocks}
 use Rattle.archive.specs.Archive.{ifAny}
@@ -78,7 +79,7 @@ fieldsOf b f fs =
       first = cond (eqb k 0) 0 (b + 1);
       kind = f .kind;
       locked = f .locked;
-      «name_length» = length (f .name);
+      «name_length» = length (shown (f .raw));
       count = f .count;
       size = length (f .bytes);
     }
@@ -93,9 +94,13 @@ abbrev pub entryWith : Outcome Contents → ℕ → Entry
 entryWith (refused r) b = noEntry (code r)
 entryWith (given c) b = entryOf 1 (c .files) b
 
--- the name in block b
+-- the name in block b, as it is shown
 abbrev pub nameIn : List ℕ → ℕ → List ℕ
 nameIn a b = take (getD (fromBlock a b) 6 0) (drop 7 (fromBlock a b))
+
+-- .. and as it is cut: the 30 name bytes (Req 07)
+abbrev pub rawIn : List ℕ → ℕ → List ℕ
+rawIn a b = take 30 (drop 42 (fromBlock a b))
 
 -- ---- data
 -- the data in block b, where so many bytes are left

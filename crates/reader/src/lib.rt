@@ -4,16 +4,17 @@ ghost use Prim.Native.Nat.{_+_, _*_, _-_, _/_, _%_, _<_, _≤_};
 ghost use mathlib.Core.Bool.{cond};
 ghost use mathlib.Core.List.{[]};
 ghost use lib.ListN.{take, drop};
-ghost use lib.Dec.{eqb, ltb};
+ghost use lib.Dec.{eqb};
 ghost use Rattle.lists.specs.Select.{all};
 ghost use Rattle.lists.specs.Same.{same};
 ghost use Rattle.outcome.specs.Outcome.{number};
-ghost use Rattle.catalog.specs.Catalog.{trimmed};
 ghost use Rattle.archive.specs.Reader.{sizeIn, entryIn, allowed, soundEntry, soundData, soundFirst, entriesFrom, dataFrom, opened};
-ghost use Rattle.reader.specs.Steps.{notOpened, openedWith, noEntry, fieldsIn, isEntry, entryStep, entryWith, nameIn, dataPart, nextData};
-ghost use Rattle.reader.specs.Tests.{plainFile, linksDue, blankEntry};
+ghost use Rattle.reader.specs.Steps.{notOpened, openedWith, noEntry, fieldsIn, isEntry, entryStep, entryWith, nameIn, rawIn, dataPart, nextData};
+ghost use Rattle.reader.specs.Tests.{linksDue, nameDue, blankEntry};
 use archive::first_block;
+use catalog::bad_letter;
 use catalog::file_type;
+use catalog::filename;
 use lists::byte_at;
 use lists::part;
 use lists::same;
@@ -64,40 +65,6 @@ fn size_in(s: &[u8]) -> u32
     low + 256 * middle + 65536 * high
 }
 
-// No byte is 80h or more.
-fn plain_bytes(name: &[u8]) -> bool
-    ensures { λ r. ⌜ r ≡ all (λ b. ltb b 128) (now (name .entry)) ⌝ }
-{
-    let mut k: usize = 0;
-    while k < name.len() {
-        if 128 <= name[k] {
-            return false;
-        }
-        k += 1;
-    }
-    true
-}
-
-// The last byte is no space.
-fn whole_name(name: &[u8]) -> bool
-    ensures { λ r. ⌜ r ≡ same (trimmed (now (name .entry))) (now (name .entry)) ⌝ }
-{
-    if name.len() == 0 {
-        return true;
-    }
-    name[name.len() - 1] != 32
-}
-
-// A file may have this type, lock and name, and so many bytes.
-fn allowed_file(kind: u8, locked: u8, name: &[u8], size: u32) -> bool
-    ensures { λ r. ⌜ r ≡ allowed size (plainFile kind locked (now (name .entry))) ⌝ }
-{
-    (file_type(kind) == kind)
-        & ((locked < 2)
-            & ((name.len() <= 30)
-                & (plain_bytes(name) & (whole_name(name) & ((kind == 4) | (size == 0))))))
-}
-
 // The number of block b as a link has it, and 0 for none.
 fn link(none: bool, b: usize) -> u16
     ensures { λ r. ⌜ r ≡ cond none 0 b % 65536 ⌝ }
@@ -112,8 +79,11 @@ fn link(none: bool, b: usize) -> u16
 fn allowed_entry(s: &[u8]) -> bool
     ensures { λ r. ⌜ r ≡ allowed (sizeIn (now (s .entry))) (entryIn (now (s .entry)) []) ⌝ }
 {
-    let name = part(s, 7, byte_at(s, 6) as usize);
-    allowed_file(byte_at(s, 4), byte_at(s, 5), name, size_in(s))
+    let kind = byte_at(s, 4);
+    let raw = part(s, 42, 30);
+    (file_type(kind) == kind)
+        & ((byte_at(s, 5) < 2)
+            & ((raw.len() == 30) & (!bad_letter(s, 42) & ((kind == 4) | (size_in(s) == 0)))))
 }
 
 // All bytes are zero.
@@ -147,12 +117,20 @@ fn links_due(s: &[u8], b: usize, n: usize) -> bool
     same(part(s, 0, 4), &links)
 }
 
-// The bytes of an entry block behind its name, and those behind its fields, are zero.
+// The shown name in an entry block is the one that its name bytes give.
+fn name_due(s: &[u8]) -> bool
+    ensures { λ r. ⌜ r ≡ nameDue (now (s .entry)) ⌝ }
+{
+    let name = filename(part(s, 42, 30));
+    let letters = name.letters;
+    (byte_at(s, 6) == name.length) & same(part(s, 7, 30), &letters)
+}
+
+// The bytes of an entry block behind its fields are zero.
 fn blank_entry(s: &[u8]) -> bool
     ensures { λ r. ⌜ r ≡ blankEntry (now (s .entry)) ⌝ }
 {
-    let name = part(s, 7, 30);
-    blank(part(name, byte_at(s, 6) as usize, 30)) & blank(part(s, 42, 214))
+    blank(part(s, 72, 184))
 }
 
 // s begins with the entry block that its own fields ask for: it is block b, with n blocks behind it. No block is made for it, as below.
@@ -167,6 +145,9 @@ fn sound_entry(s: &[u8], b: usize, n: usize) -> bool
         return false;
     }
     if !links_due(s, b, n) {
+        return false;
+    }
+    if !name_due(s) {
         return false;
     }
     blank_entry(s)
@@ -340,12 +321,19 @@ pub fn next_entry(archive: &[u8], block: u64) -> Entry
     no_entry(0)
 }
 
-// The name in an entry block.
+// The name in an entry block, as it is shown.
 pub fn entry_name(archive: &[u8], block: u64) -> &[u8]
     ensures { λ r. ⌜ now r ≡ nameIn (now (archive .entry)) block ⌝ }
 {
     let s = from_block(archive, block as usize);
     part(s, 7, byte_at(s, 6) as usize)
+}
+
+// The 30 name bytes in an entry block, as they are cut.
+pub fn entry_raw_name(archive: &[u8], block: u64) -> &[u8]
+    ensures { λ r. ⌜ now r ≡ rawIn (now (archive .entry)) block ⌝ }
+{
+    part(from_block(archive, block as usize), 42, 30)
 }
 
 // The data in a data block, where `left` bytes are left.

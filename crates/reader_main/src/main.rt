@@ -4,10 +4,12 @@
 //     01 AA BB DD 00    let AABBDD bytes be in use
 //     02 KK KK JJ JJ    let each block from KKKK on, and before JJJJ, be linked to the next
 //     03 00 00 00 00    open the archive
-//     04 KK KK 00 00    show the entry that block KKKK has, looked at alone, and its name
+//     04 KK KK 00 00    show the entry that block KKKK has, looked at alone, and its name, as it is shown and as it is cut
 //     05 KK KK 00 00    show the entry that block KKKK has in the archive
 //     06 KK KK LL LL    show the data of block KKKK, where LLLL bytes are left
 //     07 00 00 00 00    step through the entries of the archive
+//     08 KK KK JJ JJ    let the 30 name bytes of each block from KKKK on, and before JJJJ, be A0h
+//     09 KK KK JJ JJ    let them be 0
 ghost use mathlib.Core.Path.{_≡_};
 ghost use Prim.Native.Nat.{_<_};
 ghost use lib.ListN.{length};
@@ -74,11 +76,22 @@ fn entry_lines(text: &[u8], e: Entry) {
     fields_line(e);
 }
 
+fn raw_line(raw: &[u8]) {
+    print(b"  as cut");
+    let mut i: usize = 0;
+    while i < raw.len() {
+        print_number(b"", lists::byte_at(raw, i) as u64);
+        i += 1;
+    }
+    print(b"\n");
+}
+
 fn show_next(archive: &[u8], block: u16) {
     entry_lines(b"block: refusal", cursor::entry_from(archive, block));
     print(b"  name ");
     print(reader::entry_name(archive, block as u64));
     print(b"\n");
+    raw_line(reader::entry_raw_name(archive, block as u64));
 }
 
 fn show_entry(archive: &[u8], block: u64) {
@@ -148,6 +161,17 @@ fn chain(bytes: &mut [u8], from: u64, to: u64) {
     }
 }
 
+fn names(bytes: &mut [u8], from: u64, to: u64, v: u8) {
+    let mut b = from;
+    while b < to {
+        if 65535 <= b {
+            return;
+        }
+        lists::fill_at(bytes, 256 * b as usize + 42, 30, v);
+        b += 1;
+    }
+}
+
 fn show(archive: &[u8], step: [u8; 5]) {
     let command = step[0];
     match command {
@@ -171,6 +195,19 @@ fn act(bytes: &mut [u8], used: usize, step: [u8; 5]) -> usize {
     }
     if command == 2 {
         chain(bytes, number(step[1], step[2]), number(step[3], step[4]));
+        return used;
+    }
+    if command == 8 {
+        names(
+            bytes,
+            number(step[1], step[2]),
+            number(step[3], step[4]),
+            160,
+        );
+        return used;
+    }
+    if command == 9 {
+        names(bytes, number(step[1], step[2]), number(step[3], step[4]), 0);
         return used;
     }
     show(lists::part(bytes, 0, used), step);

@@ -1,5 +1,5 @@
 // Answers of the calls on disks of 13 sectors a track and on streams of both editions (document 02, Req 12), and on disks of both with lists of 121 and 122 pairs
-// (Req 05) and with the catalog on any track (Req 08). Standard input is a script, a line of six bytes in hexadecimal for each step. KK is an edition, 0D or 10:
+// (Req 05), with the catalog on any track (Req 08) and with names that show alike (Req 07). Standard input is a script, a line of six bytes in hexadecimal for each step. KK is an edition, 0D or 10:
 // 13 or 16 sectors a track. There are a disk of zeros of each edition, a stream that is empty at first, and an archive at hand that is empty at first. NNNN and
 // AABBDD are numbers, the high byte first.
 //     00 KK TT SS BB VV    put VV at byte BB of DOS sector SS of track TT of the disk

@@ -20,8 +20,7 @@ use Rattle.lists.proofs.Put.{Put, put-none, put-more, placed-put}
 use Rattle.outcome.specs.Outcome.{given, each}
 use Rattle.outcome.proofs.Outcome.{each-cons, each-every}
 use Rattle.disk.specs.declared.Place.{Place}
-use Rattle.catalog.specs.Catalog.{Entry, live, entryFrom, entryAt, entriesOf, shown}
-use Rattle.catalog.proofs.Names.{shown-short}
+use Rattle.catalog.specs.Catalog.{Entry, live, entryFrom, entryAt, entriesOf}
 use Rattle.files.specs.Contents.{File, Contents, fileOf}
 use Rattle.files.specs.Survey.{dataBlocks, blocksIn, blocks}
 use Rattle.files.proofs.Order.{file-given}
@@ -102,8 +101,8 @@ module _ (n : ℕ) (d : List ℕ) where
 
   pub names-short : (ps : List Place) (fs : List File) → each (fileOf n d) (flatMap (entriesOf n d) ps) ≡ given fs → Short fs
   names-short ps fs h =
-      each-every (fileOf n d) (λ (f : File). length (f .name) ≤ 30)
-      (λ e f r g. let s = shown-short (e .raw) in let q = ap (λ (y : File). length (y .name)) (file-given n d e f g .3) in omega arith) fs (raws-short ps) h
+      each-every (fileOf n d) (λ (f : File). length (f .raw) ≤ 30)
+      (λ e f r g. let q = ap (λ (y : File). length (y .raw)) (file-given n d e f g .3) in omega arith) fs (raws-short ps) h
 
 -- ---- the pass is one step for each block
 module _ (w : Bool) (a : List ℕ) where

@@ -6,7 +6,7 @@ use Prim.Native.Nat.{ℕ, zero, suc, _+_, _-_, _*_, _<_, _≤_}
 use native.Mathlib.Nat.{mul-zero}
 use native.Mathlib.Omega.{arith}
 use lib.ListN.{length, take, drop, getD, replicate, length-take, length-drop, length-append, length-replicate, List·getD-append, take-append-drop}
-use lib.Seq.{take-at, take-all, take-nil, drop-nil, take-append-le, drop-append-le}
+use lib.Seq.{take-at, take-all, take-take, take-nil, drop-nil, take-append-le, drop-append-le}
 use lib.Dec.{eqb, leb}
 use borrow.Author.Tests.{eqb-true, eqb-false, le-leb}
 use borrow.Author.Needs.{needs}
@@ -20,15 +20,13 @@ use Rattle.outcome.specs.Outcome.{given}
 use Rattle.disk.specs.declared.Place.{Place}
 use Rattle.disk.specs.Disk.{place, start, sectors, onDisk, wordOf, bytesOf}
 use Rattle.catalog.specs.declared.FileEntry.{FileEntry}
-use Rattle.catalog.specs.Catalog.{Entry, entryFrom, shown}
+use Rattle.catalog.specs.Catalog.{Entry, entryFrom}
 use Rattle.catalog.specs.Listing.{fileEntry}
-use Rattle.catalog.proofs.Names.{shown-short}
 use Rattle.files.specs.Contents.{File, bytesIn, pairsOf, listWalk, fileOf}
 use Rattle.files.specs.Threads.{headOf}
 use Rattle.files.specs.Copies.{cutOf, Roomy, Whole, Copied, CopiedAll, walkOf}
 use Rattle.files.proofs.Order.{file-given}
 use Rattle.files.proofs.Proper.{all-long, bytesIn-binary}
-use Rattle.files.proofs.Adds.{front-name}
 use Rattle.files.proofs.Sums.{stated, first}
 use Rattle.files.proofs.Datas.{cut-nil, cut-4, joined-lists}
 use Rattle.writer.specs.declared.Mark.{Mark}
@@ -96,16 +94,13 @@ module _ (n : ℕ) (d : List ℕ) where
 
 -- ---- the file of an entry
 -- an entry as it was read, with the bytes of its file, is its file
-with-bytes : (n : ℕ) (d : List ℕ) (x : ℕ) (f : File) → fileOf n d (entryFrom d x) ≡ given f → fileWith (fileEntry (entryFrom d x)) (f .bytes) ≡ f
+with-bytes : (n : ℕ) (d : List ℕ) (x : ℕ) (f : File) → fileOf n d (entryFrom d x) ≡ given f → fileWith (fileEntry (entryFrom d x)) (entryFrom d x .raw) (f .bytes) ≡ f
 with-bytes n d x f h =
     let e : Entry = entryFrom d x in
     let g = file-given n d e f h in
-    let s = shown-short (e .raw) in
-    let l : length (shown (e .raw)) ≤ 30 = omega (arith, length-take 30 (drop (x + 3) d)) in
-    let m : take 30 (take (fileEntry e .name .length) (fileEntry e .name .letters)) ≡ shown (e .raw) =
-    ap (take 30) (front-name (e .raw)) ∙ take-all 30 (shown (e .raw)) l in
-    (λ i. record { kind = e .kind; locked = e .locked; name = m i; count = e .count; bytes = f .bytes })
-    ∙ ap (λ (y : List ℕ). record { kind = e .kind; locked = e .locked; name = shown (e .raw); count = e .count; bytes = y }) (ap (λ (y : File). y .bytes) (g .3))
+    let m : take 30 (e .raw) ≡ e .raw = take-take 30 30 (drop (x + 3) d) (omega arith) in
+    (λ i. record { kind = e .kind; locked = e .locked; raw = m i; count = e .count; bytes = f .bytes })
+    ∙ ap (λ (y : List ℕ). record { kind = e .kind; locked = e .locked; raw = e .raw; count = e .count; bytes = y }) (ap (λ (y : File). y .bytes) (g .3))
     ∙ sym (g .3)
 
 module _ (n : ℕ) (d : List ℕ) (x : ℕ) (a : Has n d (entryFrom d x)) where
@@ -197,16 +192,16 @@ module _ (n : ℕ) (d : List ℕ) (x : ℕ) (a : Has n d (entryFrom d x)) where
         rw (stated-is, j, c) (cut-4 n d (a .sized) qs f) ∙ front-is n d (a .sized) ps on v ∙ sym (bytes-are ∙ ap (λ (i : ℕ). bytesIn i (flatMap (bytesOf n d) ps)) t)
 
   -- ---- the two returns
-  module _ (w : Bool) (y : List ℕ) (total : ℕ) (e : FileEntry) (m : Mark) (o : List ℕ) (q : e ≡ fileEntry (entryFrom d x)) where
+  module _ (w : Bool) (y : List ℕ) (total : ℕ) (e : FileEntry) (raw : List ℕ) (m : Mark) (o : List ℕ) (q : e ≡ fileEntry (entryFrom d x)) (g : raw ≡ entryFrom d x .raw) where
     entry-made : (xs : List ℕ) → xs ≡ a .file .bytes → (r : Mark) (o′ : List ℕ)
-        → Made (withFile w y total (passOf m o) (fileWith e xs)) 261 m o o′ r → Made (withEntry w y n d total (passOf m o) (entryFrom d x)) 261 m o o′ r
+        → Made (withFile w y total (passOf m o) (fileWith e raw xs)) 261 m o o′ r → Made (withEntry w y n d total (passOf m o) (entryFrom d x)) 261 m o o′ r
     unfolding withEntry
     entry-made xs h r o′ u =
-        let f : fileWith e xs ≡ a .file = ap (λ (i : FileEntry). fileWith i xs) q ∙ ap (fileWith (fileEntry (entryFrom d x))) h ∙ with-bytes n d x (a .file) (a .is) in
+        let f : fileWith e raw xs ≡ a .file = ap (λ (i : FileEntry). fileWith i raw xs) q ∙ rw (g, h) refl ∙ with-bytes n d x (a .file) (a .is) in
         rw (withEntry, a .is) (subst (λ (i : File). Made (withFile w y total (passOf m o) i) 261 m o o′ r) f u)
 
     pub entry-other : (e .«file_type» ≡ 4 → ⊥) → (z : List ℕ) (r : Mark) (o′ : List ℕ)
-        → Made (withFile w y total (passOf m o) (fileWith e (collected d z 0))) 261 m o o′ r → Made (withEntry w y n d total (passOf m o) (entryFrom d x)) 261 m o o′ r
+        → Made (withFile w y total (passOf m o) (fileWith e raw (collected d z 0))) 261 m o o′ r → Made (withEntry w y n d total (passOf m o) (entryFrom d x)) 261 m o o′ r
     unfolding collected flatMap
     entry-other k z r o′ u =
         let t : entryFrom d x .kind ≡ 4 → ⊥ = λ i. k (ap (λ (j : FileEntry). j .«file_type») q ∙ i) in
@@ -216,7 +211,7 @@ module _ (n : ℕ) (d : List ℕ) (x : ℕ) (a : Has n d (entryFrom d x)) where
 
     pub entry-binary : e .«file_type» ≡ 4 → (z c : List ℕ) (k : ℕ) → z ≡ replicate 257 0 → CopiedAll 257 (walkOf n d (startOf n) (e .list)) (spot 0) z c (spot k)
         → statedIn d c < 65536 → (r : Mark) (o′ : List ℕ)
-        → Made (withFile w y total (passOf m o) (fileWith e (collected d c k))) 261 m o o′ r → Made (withEntry w y n d total (passOf m o) (entryFrom d x)) 261 m o o′ r
+        → Made (withFile w y total (passOf m o) (fileWith e raw (collected d c k))) 261 m o o′ r → Made (withEntry w y n d total (passOf m o) (entryFrom d x)) 261 m o o′ r
     entry-binary t z c k b u s r o′ v = entry-made (collected d c k) (collected-is z c k e b q u t s) r o′ v
 
 pub ruleset entries = (entry-room, entry-whole, other-sectors, binary-sectors, entry-other, entry-binary, needs)

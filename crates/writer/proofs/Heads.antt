@@ -37,11 +37,11 @@ data-some k b h = rw (ne-eqb _ _ h) refl
 pub ruleset links = (entry-last, entry-on, data-none, data-some, needs)
 
 -- ---- an entry block
-pub head-made : (t b k size : ℕ) (e : FileEntry) (u v : ℕ) (x r : List ℕ) → u ≡ cond (eqb (b + 1 + k) t) 0 (b + 1 + k) % 65536 → v ≡ cond (eqb k 0) 0 (b + 1) % 65536
-    → x ≡ take (e .name .length) (drop 0 (e .name .letters)) → r ≡ entryBytes u v size (e .«file_type») (e .locked) x (e .count) → r ≡ headAt t b k size (fileWith e [])
+pub head-made : (t b k size : ℕ) (e : FileEntry) (raw : List ℕ) (u v : ℕ) (r : List ℕ) → u ≡ cond (eqb (b + 1 + k) t) 0 (b + 1 + k) % 65536 → v ≡ cond (eqb k 0) 0 (b + 1) % 65536
+    → r ≡ entryBytes u v size (e .«file_type») (e .locked) raw (e .count) → r ≡ headAt t b k size (fileWith e raw [])
 unfolding entryBytes
-head-made t b k size e u v x r p q h z =
-    z ∙ rw (p, q, h) (entry-mod (cond (eqb (b + 1 + k) t) 0 (b + 1 + k)) (cond (eqb k 0) 0 (b + 1)) size (fileWith e []))
+head-made t b k size e raw u v r p q z =
+    z ∙ rw (p, q) (entry-mod (cond (eqb (b + 1 + k) t) 0 (b + 1 + k)) (cond (eqb k 0) 0 (b + 1)) size (fileWith e raw []))
 
 -- what is emitted is what was made
 pub emit-of : (w : Bool) (a : List ℕ) (s : Pass) (m : Mark) (o o′ : List ℕ) (r : Mark) (y z : List ℕ) → y ≡ z → Made (stepped w a s y) 1 m o o′ r → Made (stepped w a s z) 1 m o o′ r

@@ -13,6 +13,7 @@ use Rattle.lists.specs.Words.{le2, le3}
 use Rattle.lists.proofs.Laws.{length-padded}
 use Rattle.lists.proofs.Placed.{placed-fits}
 use Rattle.lists.proofs.Put.{Put, placed-put, put-more, put-whole}
+use Rattle.catalog.specs.Catalog.{shown}
 use Rattle.files.specs.Contents.{File}
 use Rattle.archive.specs.Archive.{dataBlock, entryBlock}
 use Rattle.writer.specs.Passes.{headOf, tailOf, nextData, madeAt}
@@ -112,7 +113,7 @@ data-mod next xs = ap (λ (t : List ℕ). t ++ padded 254 xs) (le2-mod next)
 pub entry-mod : (next first size : ℕ) (f : File) → entryBlock (next % 65536) (first % 65536) size f ≡ entryBlock next first size f
 unfolding entryBlock
 entry-mod next first size f =
-    let r : List ℕ = f .kind ∷ f .locked ∷ length (f .name) ∷ padded 30 (f .name) ++ (le2 (f .count) ++ le3 size) in
+    let r : List ℕ = f .kind ∷ f .locked ∷ length (shown (f .raw)) ∷ padded 30 (shown (f .raw)) ++ (le2 (f .count) ++ (le3 size ++ f .raw)) in
     ap (λ (t : List ℕ). padded 256 (t ++ (le2 (first % 65536) ++ r))) (le2-mod next)
     ∙ ap (λ (t : List ℕ). padded 256 (le2 next ++ (t ++ r))) (le2-mod first)
 

@@ -142,10 +142,10 @@ module _ (d ns : List ℕ) where
         rw (length-take, length-drop, l) (omega (arith, extent))
 
     -- ---- the blocks of an entry
-    module _ (w : Bool) (a : List ℕ) (total : ℕ) (e : FileEntry) (m₀ : Mark) (o : List ℕ) where
+    module _ (w : Bool) (a : List ℕ) (total : ℕ) (e : FileEntry) (raw : List ℕ) (m₀ : Mark) (o : List ℕ) where
       blocks-are : (size start k : ℕ) → size ≡ sizeBy m (statedIn d ns) → start ≡ startBy m (statedIn d ns) → k ≡ (size + 253) / 254
-          → fileBlocks total (m₀ .block) (fileWith e (collected d ns m))
-          ≡ headAt total (m₀ .block) k size (fileWith e []) ∷ map (madeAt d ns start size k (m₀ .block + 1)) (below k)
+          → fileBlocks total (m₀ .block) (fileWith e raw (collected d ns m))
+          ≡ headAt total (m₀ .block) k size (fileWith e raw []) ∷ map (madeAt d ns start size k (m₀ .block + 1)) (below k)
       unfolding fileBlocks collected entryBlock
       blocks-are size start k p q r =
           let l : length (collected d ns m) ≡ size = size-is ∙ sym p in
@@ -154,9 +154,9 @@ module _ (d ns : List ℕ) where
           rw (l, ← r, x) (rw g refl)
 
       pub blocks-done : (stated size start k : ℕ) → stated ≡ statedIn d ns → size ≡ sizeBy m stated → start ≡ startBy m stated → k ≡ (size + 253) / 254
-          → (t : Mark) (o₁ : List ℕ) → Made (stepped w a (passOf m₀ o) (headAt total (m₀ .block) k size (fileWith e []))) 1 m₀ o o₁ t
+          → (t : Mark) (o₁ : List ℕ) → Made (stepped w a (passOf m₀ o) (headAt total (m₀ .block) k size (fileWith e raw []))) 1 m₀ o o₁ t
           → (r : Mark) (o₂ : List ℕ) → Made (foldl (stepped w a) (passOf t o₁) (map (madeAt d ns start size k (t .block)) (below k))) 260 t o₁ o₂ r
-          → Made (withFile w a total (passOf m₀ o) (fileWith e (collected d ns m))) 261 m₀ o o₂ r
+          → Made (withFile w a total (passOf m₀ o) (fileWith e raw (collected d ns m))) 261 m₀ o o₂ r
       unfolding withFile stepped
       blocks-done stated size start k f p q g t o₁ h r o₂ u =
           let b : t .block ≡ m₀ .block + 1 = ap (λ (y : Pass). y .block) (h .is) in

@@ -83,13 +83,13 @@ headAt n b k size f = entryBlock (cond (eqb (b + 1 + k) n) 0 (b + 1 + k)) (cond 
 unfoldable pub fileBlocks : (n b : ℕ) → File → List (List ℕ)
 fileBlocks n b f = headAt n b (dataBlocks f) (length (f .bytes)) f ∷ map (dataAt (dataBlocks f) (b + 1) (f .bytes)) (below (dataBlocks f))
 
--- an entry as it was read, with these bytes
-abbrev pub fileWith : FileEntry → List ℕ → File
-fileWith e xs =
+-- an entry as it was read, with these name bytes (the first 30) and these bytes
+abbrev pub fileWith : FileEntry → (raw xs : List ℕ) → File
+fileWith e raw xs =
     record {
       kind = e .«file_type»;
       locked = e .locked;
-      name = take 30 (take (e .name .length) (e .name .letters));
+      raw = take 30 raw;
       count = e .count;
       bytes = xs;
     }

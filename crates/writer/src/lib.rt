@@ -20,6 +20,7 @@ use catalog::entry_start;
 use catalog::first_page;
 use catalog::last_page;
 use catalog::parse_file_entry;
+use catalog::raw_name;
 use catalog::valid_file;
 use disk::Place;
 use disk::Sector;
@@ -340,25 +341,14 @@ fn first_data(k: u32, b: u32) -> u16
     ((b + 1) % 65536) as u16
 }
 
-// The entry block of an entry with `size` bytes in k data blocks.
-fn make_head(total: u32, b: u32, k: u32, size: u32, e: FileEntry) -> [u8; 256]
+// The entry block of an entry with these name bytes, and `size` bytes in k data blocks.
+fn make_head(total: u32, b: u32, k: u32, size: u32, e: FileEntry, raw: &[u8]) -> [u8; 256]
     requires { ⌜ (b ≤ 20000000) × (k ≤ 1000) ⌝ }
-    ensures { λ r. ⌜ r ≡ headAt total b k size (fileWith e []) ⌝ }
+    ensures { λ r. ⌜ r ≡ headAt total b k size (fileWith e (now (raw .entry)) []) ⌝ }
 {
-    let name = e.name;
-    let letters = name.letters;
-    let n = name.length as usize;
     let next = next_entry(b + 1 + k, total);
     let first = first_data(k, b);
-    entry_block(
-        next,
-        first,
-        size,
-        e.file_type,
-        e.locked,
-        part(&letters, 0, n),
-        e.count,
-    )
+    entry_block(next, first, size, e.file_type, e.locked, raw, e.count)
 }
 
 // Makes the entry block of an entry and emits it.
@@ -369,13 +359,14 @@ fn emit_head(
     k: u32,
     size: u32,
     e: FileEntry,
+    raw: &[u8],
     m: Mark,
     out: &mut [u8],
 ) -> Mark
     requires { ⌜ (m .block ≤ 20000000) × (k ≤ 1000) ⌝ }
-    ensures { λ r. ⌜ Made (stepped write (now (archive .entry)) (passOf m (now (out .entry))) (headAt total (m .block) k size (fileWith e []))) 1 m (now (out .entry)) (now (out .exit)) r ⌝ }
+    ensures { λ r. ⌜ Made (stepped write (now (archive .entry)) (passOf m (now (out .entry))) (headAt total (m .block) k size (fileWith e (now (raw .entry)) []))) 1 m (now (out .entry)) (now (out .exit)) r ⌝ }
 {
-    let block = make_head(total, m.block, k, size, e);
+    let block = make_head(total, m.block, k, size, e, raw);
     emit(write, archive, &block, m, out)
 }
 
@@ -421,18 +412,19 @@ fn emit_blocks(
     places: &[u32],
     n: usize,
     e: FileEntry,
+    raw: &[u8],
     m: Mark,
     out: &mut [u8],
 ) -> Mark
     requires { ⌜ Sectors (now disk) (now places) n × (m .block ≤ 18000000) ⌝ }
-    ensures is { λ r. ⌜ Made (withFile write (now (archive .entry)) total (passOf m (now (out .entry))) (fileWith e (collected (now (disk .entry)) (now (places .entry)) n))) 261 m (now (out .entry)) (now (out .exit)) r ⌝ }
+    ensures is { λ r. ⌜ Made (withFile write (now (archive .entry)) total (passOf m (now (out .entry))) (fileWith e (now (raw .entry)) (collected (now (disk .entry)) (now (places .entry)) n))) 261 m (now (out .entry)) (now (out .exit)) r ⌝ }
     ensures small { λ _. ⌜ statedIn (now (disk .entry)) (now (places .entry)) < 65536 ⌝ }
 {
     let stated = stated_length(disk, places);
     let size = size_by(n, stated);
     let start = start_by(n, stated);
     let k = ((size + 253) / 254) as u32;
-    let t = emit_head(write, archive, total, k, size as u32, e, m, out);
+    let t = emit_head(write, archive, total, k, size as u32, e, raw, m, out);
     emit_data(write, archive, disk, places, start, size, k, t, out)
 }
 
@@ -451,13 +443,14 @@ fn emit_file(
     ensures { λ r. ⌜ Made (withEntry write (now (archive .entry)) per (now (disk .entry)) total (passOf m (now (out .entry))) (entryFrom (now (disk .entry)) x)) 261 m (now (out .entry)) (now (out .exit)) r ⌝ }
 {
     let e = parse_file_entry(disk, x);
+    let raw = raw_name(disk, x);
     let list = e.list;
     let mut places = [0u32; 257];
     if e.file_type != 4 {
-        return emit_blocks(write, archive, disk, total, &places, 0, e, m, out);
+        return emit_blocks(write, archive, disk, total, &places, 0, e, raw, m, out);
     }
     let n = collect(disk, per, list, &mut places);
-    emit_blocks(write, archive, disk, total, &places, n, e, m, out)
+    emit_blocks(write, archive, disk, total, &places, n, e, raw, m, out)
 }
 
 // The same, where it is in use.

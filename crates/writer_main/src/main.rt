@@ -91,11 +91,11 @@ fn sum_of(part: &[u8]) -> u32 {
     sum
 }
 
-// The first 48 bytes of a block.
+// The first 72 bytes of a block: all fields of an entry block.
 fn block_line(part: &[u8], block: u8) {
     let at = 256 * (block as usize);
     if at < part.len() {
-        bytes_line(lists::part(part, at, 48));
+        bytes_line(lists::part(part, at, 72));
     }
 }
 

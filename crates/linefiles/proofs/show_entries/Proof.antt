@@ -4,10 +4,10 @@ use Rattle.linefiles.proofs.show_entries.Statement.{statement}
 use Rattle.linefiles.proofs.show_entries.Tie as tie
 
 abbrev Inv-loop : tie.InvT-loop
-Inv-loop archive start block₀ n₀ k₀ block n k = k ≤ 4096
+Inv-loop archive first raw block₀ n₀ k₀ block n k = k ≤ 4096
 
 abbrev μ-loop : tie.MeasureT-loop
-μ-loop archive start block₀ n₀ k₀ block n k = 4096 - k
+μ-loop archive first raw block₀ n₀ k₀ block n k = 4096 - k
 
 pub show-entries-spec : {M : Type 1} → statement M
 show-entries-spec =
@@ -19,6 +19,8 @@ show-entries-spec =
     (λ c. search needs)  -- returns
     (λ c κs. search needs)  -- next-entry-requires
     (λ c κs. search needs)  -- show-entry-requires
+    (λ c κs. search needs)  -- entry-raw-name-requires
+    (λ c κs. search needs)  -- show-cut-requires
     (λ c. search needs)  -- cast-block
     (λ c κs. search needs)  -- next-requires
     (λ c. search needs)  -- add-k

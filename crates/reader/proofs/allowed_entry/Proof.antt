@@ -7,11 +7,10 @@ allowed-entry-spec =
     tie.close
     (tie.spec
     (λ c κs. search blocks)  -- byte-at-requires
-    (λ c. search blocks)  -- cast-part
     (λ c κs. search blocks)  -- part-requires
+    (λ c κs. search blocks)  -- file-type-requires
     (λ c κs. search blocks)  -- byte-at-requires-2
-    (λ c κs. search blocks)  -- byte-at-requires-3
+    (λ c κs. search blocks)  -- bad-letter-requires
     (λ c κs. search blocks)  -- size-in-requires
-    (λ c κs. search blocks)  -- allowed-file-requires
     (λ c. search blocks)  -- returns
     )

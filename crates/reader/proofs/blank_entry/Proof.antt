@@ -7,11 +7,6 @@ blank-entry-spec =
     tie.close
     (tie.spec
     (λ c κs. search blocks)  -- part-requires
-    (λ c κs. search blocks)  -- byte-at-requires
-    (λ c. search blocks)  -- cast-part
-    (λ c κs. search blocks)  -- part-requires-2
     (λ c κs. search blocks)  -- blank-requires
-    (λ c κs. search blocks)  -- part-requires-3
-    (λ c κs. search blocks)  -- blank-requires-2
     (λ c. search blocks)  -- returns
     )

@@ -11,6 +11,8 @@ sound-entry-spec =
     (λ c. search blocks)  -- returns-2
     (λ c κs. search blocks)  -- links-due-requires
     (λ c. search blocks)  -- returns-3
-    (λ c κs. search blocks)  -- blank-entry-requires
+    (λ c κs. search blocks)  -- name-due-requires
     (λ c. search blocks)  -- returns-4
+    (λ c κs. search blocks)  -- blank-entry-requires
+    (λ c. search blocks)  -- returns-5
     )

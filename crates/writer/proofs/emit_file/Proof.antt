@@ -7,6 +7,7 @@ emit-file-spec =
     tie.close
     (tie.spec
     (λ c κs. search entries)  -- parse-file-entry-requires
+    (λ c κs. search entries)  -- raw-name-requires
     (λ c. search entries)  -- slice-aggregate-emit-blocks
     (λ c κs. search entries)  -- emit-blocks-requires
     (λ c. search entries)  -- same-length
