@@ -230,6 +230,21 @@ def moved_catalog():
     return d
 
 
+# Names that show alike and are cut differently: A with and without the high bit of its letter, and a name of 30 letters with the high bits and without. The name of a
+# line file stands twice and is cut the same.
+def alike():
+    d = Disk(254, 1)
+    d.file('A', 4, binary(line(51, 100)))
+    d.file('A', 4, binary(line(52, 200)))
+    d.put(d.pages[0], 11 + 35 + 3, b'\x41')
+    for plain in (False, True):
+        d.file('THIRTY LETTERS, HIGH OR LOW 30', 4, binary(line(53, 300)), plain=plain)
+    d.file('LINE 8 RING 1', 4, binary(line(54, 400)))
+    d.file('LINE 8 RING 1', 4, binary(line(55, 500)), locked=True)
+    d.file('SHIFT NOTES', 0, text('RING 1 HAS TWO FILES'))
+    return d
+
+
 # A flat disk as nibbles (document 01: the nibble writer).
 WRITE = [0x96, 0x97, 0x9A, 0x9B, 0x9D, 0x9E, 0x9F, 0xA6, 0xA7, 0xAB, 0xAC, 0xAD, 0xAE, 0xAF, 0xB2, 0xB3,
          0xB4, 0xB5, 0xB6, 0xB7, 0xB9, 0xBA, 0xBB, 0xBC, 0xBD, 0xBE, 0xBF, 0xCB, 0xCD, 0xCE, 0xCF, 0xD3,
@@ -316,6 +331,7 @@ def main():
     two_editions(13).write('thirteen.dsk')
     two_editions(16).write('same-files.dsk')
     moved_catalog().write('moved-catalog.dsk')
+    alike().write('alike.dsk')
     with open(os.path.join(HERE, 'thirteen.nib'), 'wb') as f:
         f.write(nibbles_13(two_editions(13).d))
 

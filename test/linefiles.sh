@@ -184,11 +184,11 @@ rm -f outs/*
 same archive-one-page archive samples/one-page.dsk outs/flat.arc
 same archive-one-page-nibbles archive samples/one-page.nib outs/nibbles.arc
 holds archive-equal cmp outs/flat.arc outs/nibbles.arc
-holds archive-one-page-bytes sum_is outs/flat.arc 2fa4b4cf1c73def20590c3d4f6a3bde31f7b556646e31fcee69b8639f9b66551
+holds archive-one-page-bytes sum_is outs/flat.arc dc4c7b00de46357a230ca5eb54154fbe5ffe98d89bd778daf261a36b7a93dda6
 same archive-several-pages archive samples/several-pages.dsk outs/several.arc
-holds archive-several-pages-bytes sum_is outs/several.arc 6fee3d2549750c7773a2fa8573166772b87a61ef9bd6d82209e4a625796b826e
+holds archive-several-pages-bytes sum_is outs/several.arc 72f27746e1017ec7cdb6443425897737676b9108a9ce9fba43b002b6c54a842b
 same archive-full archive samples/full.dsk outs/full.arc
-holds archive-full-bytes sum_is outs/full.arc 40bfb35f2060effe56ba7d359a94ff90df98ab02db8947cee53eac044a3d8328
+holds archive-full-bytes sum_is outs/full.arc 129a548ef79370f6257280005871da71d6d60b7660035a21812dd990635c5034
 same archive-ring archive samples/ring.dsk outs/none
 same archive-overlong archive samples/overlong.dsk outs/none
 holds archive-nothing-left not test -e outs/none
@@ -266,7 +266,7 @@ holds get-last-pair-121-sum sum_is outs/121 a272a44816a66b43c5fe1d6fc5fa6088e27e
 holds get-last-pair-122-sum sum_is outs/122 c7e9f57c0bce8170a515cd7eb3b08495513ba27fd073a2a872fc1e0369eba9d0
 holds get-last-pair-125-sum sum_is outs/125 6677db4cb199754e08c55065f2037050a9b8d466d97524fdf9f17ffb214f697e
 same archive-last-pair archive samples/last-pair.dsk outs/last.arc
-holds archive-last-pair-bytes sum_is outs/last.arc 5e960975e4feafd9443d1e26315704df95b2a46ac60cd0149dccbc7b4acb2d13
+holds archive-last-pair-bytes sum_is outs/last.arc 46ba05c448e39b77c8f0468920d92c4aeea69ebc39d3808b7dff2b5c72b3365b
 same check-last-pair check samples/last-pair.dsk outs/last.arc
 same show-last-pair show outs/last.arc
 same nibblize-last-pair nibblize samples/last-pair.dsk outs/last.nib
@@ -400,7 +400,7 @@ holds get-thirteen-nibbles-bytes cmp outs/rings outs/rings-16
 holds get-thirteen-nibbles-sum sum_is outs/rings 56dcb95005672fc47ed92dec45e3e033a8fffd68f5609de0e8d0e588f4abb60d
 same get-thirteen-deleted get samples/thirteen.dsk 'LINE 2 OLD' outs/none
 same archive-thirteen archive samples/thirteen.dsk outs/13.arc
-holds archive-thirteen-bytes sum_is outs/13.arc cae3d31b43207e1f5ca9f799966edb21434c1da84dfb21ba927d2d9b92065a60
+holds archive-thirteen-bytes sum_is outs/13.arc 95f32eca6fd94beb814bbafb54d3bb91423c26704520af0d3cc56ca5fc1036ba
 same archive-thirteen-nibbles archive samples/thirteen.nib outs/13-nibbles.arc
 holds archive-thirteen-nibbles-equal cmp outs/13.arc outs/13-nibbles.arc
 same archive-same-files archive samples/same-files.dsk outs/16.arc
@@ -608,7 +608,7 @@ echo kept >outs/there
 same there archive samples/one-page.dsk outs/there
 holds there-kept test "$(cat outs/there)" = kept
 same force archive samples/one-page.dsk outs/there --force
-holds force-bytes sum_is outs/there 2fa4b4cf1c73def20590c3d4f6a3bde31f7b556646e31fcee69b8639f9b66551
+holds force-bytes sum_is outs/there dc4c7b00de46357a230ca5eb54154fbe5ffe98d89bd778daf261a36b7a93dda6
 same force-first --force archive samples/one-page.dsk outs/there
 same force-between nibblize --force samples/one-page.dsk outs/there
 holds force-between-bytes cmp outs/there samples/one-page.nib
@@ -657,6 +657,66 @@ if [ "$(id -u)" -ne 0 ]; then # root may read and write all
     chmod a-r secret.dsk
     same unreadable list secret.dsk
 fi
+
+# names as they are cut: of those that show alike, and of all with --raw
+same list-alike list samples/alike.dsk
+holds list-alike-plain plain out
+same list-alike-raw list --raw samples/alike.dsk
+holds list-alike-raw-plain plain out
+same list-several-pages-raw list samples/several-pages.dsk --raw
+holds list-several-pages-raw-plain plain out
+same list-thirteen-raw list samples/thirteen.nib --13 --raw
+same archive-alike archive samples/alike.dsk outs/alike
+same show-alike show outs/alike
+holds show-alike-plain plain out
+same show-alike-raw show outs/alike --raw
+holds show-alike-raw-plain plain out
+same get-alike get samples/alike.dsk A outs/last
+holds get-alike-bytes test "$(stat -c %s outs/last)" = 200
+# the rows of a name, by how many bytes stand before its last run
+raw_rows() { awk '/^ .*  B / { n++ } n == 2 && / list / { exit } n == 2' out | sed 1d; }
+for front in 0 1 11 12 15 16 26 27 28 29; do
+    damaged runs.dsk alike.dsk "$(at 17 15 $((11 + 35 + 3)))" $(for ((k = 0; k < 30; k++)); do printf '%02x ' $((k < front ? 193 + k : 160)); done)
+    run list runs.dsk --raw
+    holds "list-run-$front-plain" plain out
+    raw_rows >>runs
+done
+if [ -n "${UPDATE:-}" ]; then cp runs "$expected/list-runs"; fi
+holds list-runs diff "$expected/list-runs" runs
+# one high bit: the names and the survey are the same, the archive is another, and what differs is told
+damaged one-bit.dsk alike.dsk "$(at 17 15 $((11 + 3)))" 41
+same list-one-bit list one-bit.dsk
+run survey samples/alike.dsk
+sed 1d out >survey
+run survey one-bit.dsk
+holds survey-one-bit diff survey <(sed 1d out)
+same check-one-bit check one-bit.dsk outs/alike
+same archive-one-bit archive one-bit.dsk outs/one-bit
+same check-one-bit-own check one-bit.dsk outs/one-bit
+same check-alike-one-bit check samples/alike.dsk outs/one-bit
+# other differences at such a byte: a cut archive, a data block
+head -c 300 outs/alike >cut-name
+same check-cut-name check samples/alike.dsk cut-name
+cp outs/alike in-data
+patch in-data $((256 * 2 + 50)) ff
+same check-in-data check samples/alike.dsk in-data
+# archives of no disk: without name bytes, with 80h among them, with another letter, with a byte behind them
+cp outs/alike no-names
+patch no-names $((256 + 42)) $(printf '00 %.0s' {1..30})
+same check-no-names check samples/alike.dsk no-names
+same show-no-names show no-names
+cp outs/alike with-80h
+patch with-80h $((256 + 71)) 80
+same show-with-80h show with-80h
+cp outs/alike other-letter
+patch other-letter $((256 + 42)) c2
+same show-other-letter show other-letter
+cp outs/alike byte-72
+patch byte-72 $((256 + 72)) 01
+same show-byte-72 show byte-72
+for command in survey map; do same "raw-$command" "$command" samples/alike.dsk --raw; done
+same raw-get get samples/alike.dsk A outs/none --raw
+same raw-help help --raw
 
 # usage
 same help help

@@ -93,11 +93,11 @@ fn notes(fd: i32) {
     );
     line(
         fd,
-        b"Two names may show alike and be cut differently, by high bits or by what stands",
+        b"Names that show alike may be cut differently, in high bits or behind their end:",
     );
     line(
         fd,
-        b"behind them: `list` and `show` print the bytes of such names; --raw those of all.",
+        b"`list` and `show` print the bytes of such names, and with --raw those of all.",
     );
     line(
         fd,

@@ -399,12 +399,12 @@ fn tell_cut(due: &[u8], archive: &[u8], block: u64, byte: usize) {
     if (other.len() != 30) | (reader::entry_at(due, block).found == 0) {
         return;
     }
-    tell(b": ");
+    tell(b": the name ");
     name(STDERR_FILENO, reader::entry_name(due, block));
     tell(b" is cut ");
-    names::cut(STDERR_FILENO, reader::entry_raw_name(due, block));
-    tell(b" on the disk, ");
-    names::cut(STDERR_FILENO, other);
+    names::cut(STDERR_FILENO, reader::entry_raw_name(due, block), false);
+    tell(b" on the disk and ");
+    names::cut(STDERR_FILENO, other, false);
     tell(b" in the archive");
 }
 

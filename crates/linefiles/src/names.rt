@@ -84,37 +84,72 @@ fn last_run(raw: &[u8]) -> usize
     30
 }
 
+// A digit of a number below 16.
+fn digit(fd: i32, n: u8) {
+    text(fd, lists::part(b"0123456789ABCDEF", n as usize, 1));
+}
+
+// A byte in hexadecimal, with capitals as the papers have it.
+fn hex(fd: i32, b: u8) {
+    digit(fd, b / 16);
+    digit(fd, b % 16);
+}
+
+// A further row under an entry.
+fn row(fd: i32) {
+    text(fd, b"\n                                    ");
+}
+
+// What stands before byte k: a row has 15 of them where `rows` is said.
+fn before(fd: i32, k: u8, rows: bool) {
+    if k == 0 {
+        return;
+    }
+    if rows & (k == 15) {
+        row(fd);
+        return;
+    }
+    text(fd, b" ");
+}
+
 // The first n bytes in hexadecimal.
-fn front(fd: i32, raw: &[u8], n: usize) {
+fn front(fd: i32, raw: &[u8], n: usize, rows: bool) {
     for k in 0..30u8 {
         if (k as usize) < n {
-            if k != 0 {
-                text(fd, b" ");
-            }
-            io::print_hex(fd, byte_at(raw, k as usize) as u64, 2);
+            before(fd, k, rows);
+            hex(fd, byte_at(raw, k as usize));
         }
     }
 }
 
-// The 30 bytes in hexadecimal: those up to the last run of equal ones, and how many these are.
-pub(crate) fn cut(fd: i32, raw: &[u8]) {
+// What stands between n bytes and the run behind them: the run begins a row where it would not fit.
+fn behind(fd: i32, n: usize, rows: bool) {
+    if rows & (((11 < n) & (n < 16)) | (26 < n)) {
+        row(fd);
+        return;
+    }
+    text(fd, b", ");
+}
+
+// The 30 bytes in hexadecimal: those before the last run of equal ones, and how many these are.
+pub(crate) fn cut(fd: i32, raw: &[u8], rows: bool) {
     let run = last_run(raw);
     if run < 2 {
-        front(fd, raw, 30);
+        front(fd, raw, 30, rows);
         return;
     }
     if run < 30 {
-        front(fd, raw, 30 - run);
-        text(fd, b", ");
+        front(fd, raw, 30 - run, rows);
+        behind(fd, 30 - run, rows);
     }
     number(fd, run as u64);
     text(fd, b" of ");
-    io::print_hex(fd, byte_at(raw, 29) as u64, 2);
+    hex(fd, byte_at(raw, 29));
 }
 
-// A line of its own under an entry.
+// Its own rows under an entry.
 pub(crate) fn line(raw: &[u8]) {
-    text(STDOUT_FILENO, b"                                as cut ");
-    cut(STDOUT_FILENO, raw);
+    text(STDOUT_FILENO, b"                                raw ");
+    cut(STDOUT_FILENO, raw, true);
     text(STDOUT_FILENO, b"\n");
 }
