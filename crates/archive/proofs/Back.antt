@@ -46,18 +46,16 @@ module _ (next first size : ℕ) (f : File) (h : length (f .raw) ≡ 30) (t : Li
   unfolding entryBlock padded
   entry-size l =
       let p : List ℕ = padded 30 (shown (f .raw)) in
-      let c : List ℕ = le2 (f .count) ++ (le3 size ++ f .raw) in
       let e : length p ≡ 30 = field-long in
-      three size _ _ _ l (past p c _ t 2 e) (past p c _ t 3 e) (past p c _ t 4 e)
+      three size _ _ _ l (past p _ _ t 2 e) (past p _ _ t 3 e) (past p _ _ t 4 e)
 
   -- so is the sector count
   pub entry-count : f .count < 65536 → wordAt (entryBlock next first size f ++ t) 37 ≡ f .count
   unfolding entryBlock padded
   entry-count l =
       let p : List ℕ = padded 30 (shown (f .raw)) in
-      let c : List ℕ = le2 (f .count) ++ (le3 size ++ f .raw) in
       let e : length p ≡ 30 = field-long in
-      two (f .count) _ _ l (past p c _ t 0 e) (past p c _ t 1 e)
+      two (f .count) _ _ l (past p _ _ t 0 e) (past p _ _ t 1 e)
 
   -- and the name, as it is shown ..
   pub entry-name : take (length (shown (f .raw))) (drop 7 (entryBlock next first size f ++ t)) ≡ shown (f .raw)
@@ -68,9 +66,7 @@ module _ (next first size : ℕ) (f : File) (h : length (f .raw) ≡ 30) (t : Li
   pub entry-raw : take 30 (drop 42 (entryBlock next first size f ++ t)) ≡ f .raw
   unfolding entryBlock padded
   entry-raw =
-      let p : List ℕ = padded 30 (shown (f .raw)) in
-      let c : List ℕ = le2 (f .count) ++ (le3 size ++ f .raw) in
-      ap (take 30) (past-drop p c _ t 5 field-long) ∙ take-at (f .raw) _ 30 h
+      ap (take 30) (past-drop (padded 30 (shown (f .raw))) _ _ t 5 field-long) ∙ take-at (f .raw) _ 30 h
 
 -- f with the bytes xs
 abbrev pub withBytes : File → List ℕ → File
