@@ -14,7 +14,7 @@ use Rattle.catalog.specs.Catalog.{shown}
 use Rattle.files.specs.Contents.{File, Contents, Proper}
 use Rattle.files.specs.Survey.{fetched}
 use Rattle.archive.specs.Archive.{archive, archiveOf}
-use Rattle.agreement.specs.Agreement.{Disk, flat, contentsOf, EqualContents}
+use Rattle.agreement.specs.Agreement.{flat, contentsOf, EqualContents}
 
 -- the name bytes
 abbrev pub cut : ℕ → List ℕ

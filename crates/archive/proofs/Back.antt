@@ -22,7 +22,7 @@ use Rattle.lists.proofs.Select.{all-below}
 use Rattle.lists.proofs.Words.{two, three}
 use Rattle.lists.proofs.Laws.{length-padded}
 use Rattle.lists.specs.Fill.{padded}
-use Rattle.lists.specs.Words.{wordAt, le2, le3}
+use Rattle.lists.specs.Words.{wordAt}
 use Rattle.archive.proofs.Steps.{entries-none, entry-empty, entry-data, data-last, data-more}
 use Rattle.archive.proofs.Blocks.{length-data, length-first, length-entry, length-archive, proper-short}
 

@@ -8,7 +8,7 @@ ghost use Rattle.outcome.specs.Outcome.{leftBy};
 ghost use Rattle.disk.specs.Disk.{perOf, start};
 ghost use Rattle.catalog.specs.Catalog.{knownType, kindOf, letter, validFile, live, entryFrom, entriesOf, plainNames, lastPage, firstPage};
 ghost use Rattle.catalog.specs.Pages.{plainEntry, noPages, counted, walked, pagesCounted};
-ghost use Rattle.catalog.specs.Listing.{ShownIs, nameOf, fileEntry, blankEntry, bytes37, liveBytes, pageBytes, Wrote, Fronts, Ready, walkListed, noListing, Catalogued};
+ghost use Rattle.catalog.specs.Listing.{ShownIs, nameOf, entryHead, fileEntry, bytes37, liveBytes, pageBytes, Wrote, Fronts, Ready, walkListed, noListing, Catalogued};
 use disk::Place;
 use disk::Sector;
 use disk::Track;
@@ -43,6 +43,14 @@ pub struct Pages {
 pub struct Name {
     pub letters: [u8; 30],
     pub length: u8,
+}
+
+// An entry without its name.
+pub struct EntryHead {
+    pub list: Place,
+    pub file_type: u8,
+    pub locked: u8,
+    pub count: u16,
 }
 
 // An entry. The type is one of the nine numbers; locked is 0 or 1.
@@ -314,27 +322,49 @@ pub fn raw_name(disk: &[u8], at: usize) -> &[u8]
     part(disk, at + 3, 30)
 }
 
-// The entry in the 35 bytes of `disk` from `at` on; past the end stand zeros.
-pub fn parse_file_entry(disk: &[u8], at: usize) -> FileEntry
-    ensures { λ r. ⌜ r ≡ fileEntry (entryFrom (now (disk .entry)) at) ⌝ }
+// The entry in the 35 bytes of `disk` from `at` on, without its name; past the end stand zeros.
+pub fn entry_head(disk: &[u8], at: usize) -> EntryHead
+    ensures { λ r. ⌜ r ≡ entryHead (entryFrom (now (disk .entry)) at) ⌝ }
 {
     if disk.len() <= at {
-        return no_entry();
+        return EntryHead {
+            list: Place {
+                track: Track(0),
+                sector: Sector(0),
+            },
+            file_type: 0,
+            locked: 0,
+            count: 0,
+        };
     }
     let t = byte_at(disk, at);
     let s = byte_at(disk, at + 1);
     let code = byte_at(disk, at + 2);
-    let name = filename(part(disk, at + 3, 30));
     let count = word_at(disk, at + 33);
-    FileEntry {
+    EntryHead {
         list: Place {
             track: Track(t),
             sector: Sector(s),
         },
         file_type: file_type(code % 128),
         locked: code / 128,
-        name: name,
         count: count,
+    }
+}
+
+// The same with the name.
+pub fn parse_file_entry(disk: &[u8], at: usize) -> FileEntry
+    ensures { λ r. ⌜ r ≡ fileEntry (entryFrom (now (disk .entry)) at) ⌝ }
+{
+    let head = entry_head(disk, at);
+    let list = head.list;
+    let name = filename(raw_name(disk, at));
+    FileEntry {
+        list: list,
+        file_type: head.file_type,
+        locked: head.locked,
+        name: name,
+        count: head.count,
     }
 }
 
@@ -364,25 +394,6 @@ pub fn entry_type(disk: &[u8], at: usize) -> u8
         return 0;
     }
     file_type(byte_at(disk, at + 2) % 128)
-}
-
-// An entry of zeros.
-fn no_entry() -> FileEntry
-    ensures { λ r. ⌜ r ≡ blankEntry ⌝ }
-{
-    FileEntry {
-        list: Place {
-            track: Track(0),
-            sector: Sector(0),
-        },
-        file_type: 0,
-        locked: 0,
-        name: Name {
-            letters: [0u8; 30],
-            length: 0,
-        },
-        count: 0,
-    }
 }
 
 // An entry in 37 bytes.

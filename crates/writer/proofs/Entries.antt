@@ -19,9 +19,9 @@ use Rattle.lists.proofs.Chunks.{flatMap-append, length-chunks}
 use Rattle.outcome.specs.Outcome.{given}
 use Rattle.disk.specs.declared.Place.{Place}
 use Rattle.disk.specs.Disk.{place, start, sectors, onDisk, wordOf, bytesOf}
-use Rattle.catalog.specs.declared.FileEntry.{FileEntry}
+use Rattle.catalog.specs.declared.EntryHead.{EntryHead}
 use Rattle.catalog.specs.Catalog.{Entry, entryFrom}
-use Rattle.catalog.specs.Listing.{fileEntry}
+use Rattle.catalog.specs.Listing.{entryHead}
 use Rattle.files.specs.Contents.{File, bytesIn, pairsOf, listWalk, fileOf}
 use Rattle.files.specs.Threads.{headOf}
 use Rattle.files.specs.Copies.{cutOf, Roomy, Whole, Copied, CopiedAll, walkOf}
@@ -94,7 +94,7 @@ module _ (n : ℕ) (d : List ℕ) where
 
 -- ---- the file of an entry
 -- an entry as it was read, with the bytes of its file, is its file
-with-bytes : (n : ℕ) (d : List ℕ) (x : ℕ) (f : File) → fileOf n d (entryFrom d x) ≡ given f → fileWith (fileEntry (entryFrom d x)) (entryFrom d x .raw) (f .bytes) ≡ f
+with-bytes : (n : ℕ) (d : List ℕ) (x : ℕ) (f : File) → fileOf n d (entryFrom d x) ≡ given f → fileWith (entryHead (entryFrom d x)) (entryFrom d x .raw) (f .bytes) ≡ f
 with-bytes n d x f h =
     let e : Entry = entryFrom d x in
     let g = file-given n d e f h in
@@ -121,7 +121,7 @@ module _ (n : ℕ) (d : List ℕ) (x : ℕ) (a : Has n d (entryFrom d x)) where
   pub entry-room : (z : List ℕ) → z ≡ replicate 257 0 → Roomy 257 (spot 0) z
   entry-room z e = record { within = omega arith; fits = rw e (rw (length-replicate {A = ℕ} 257 0) (omega arith)) }
 
-  pub entry-whole : (e : FileEntry) → e ≡ fileEntry (entryFrom d x) → Whole (walkOf n d (startOf n) (e .list))
+  pub entry-whole : (e : EntryHead) → e ≡ entryHead (entryFrom d x) → Whole (walkOf n d (startOf n) (e .list))
   entry-whole e q = record { whole = flatMap (startOf n) ps; is = rw q walked }
 
   -- another type has no sectors
@@ -129,7 +129,7 @@ module _ (n : ℕ) (d : List ℕ) (x : ℕ) (a : Has n d (entryFrom d x)) where
   other-sectors z = record { few = omega arith; within = omega arith; long = none }
 
   -- those of a Binary
-  module _ (z o : List ℕ) (r : ℕ) (e : FileEntry) (b : z ≡ replicate 257 0) (q : e ≡ fileEntry (entryFrom d x))
+  module _ (z o : List ℕ) (r : ℕ) (e : EntryHead) (b : z ≡ replicate 257 0) (q : e ≡ entryHead (entryFrom d x))
       (u : CopiedAll 257 (walkOf n d (startOf n) (e .list)) (spot 0) z o (spot r)) where
     copied : Copied 257 (flatMap (startOf n) ps) (spot 0) z o (spot r)
     copied = u .is (flatMap (startOf n) ps) (rw q walked)
@@ -187,24 +187,24 @@ module _ (n : ℕ) (d : List ℕ) (x : ℕ) (a : Has n d (entryFrom d x)) where
         let j : flatMap (sectorAt d) (take r o) ≡ flatMap (bytesOf n d) qs =
         ap (flatMap (sectorAt d)) (firsts-are ∙ starts-take n d 257 ps) ∙ starts-bytes n d qs in
         let f : all (onDisk n) qs ≡ true = all-take (onDisk n) 257 ps on in
-        let t : entryFrom d x .kind ≡ 4 = sym (ap (λ (y : FileEntry). y .«file_type») q) ∙ k in
+        let t : entryFrom d x .kind ≡ 4 = sym (ap (λ (y : EntryHead). y .«file_type») q) ∙ k in
         let v : wordAt (flatMap (bytesOf n d) qs) 2 < 65536 = first-word n d (a .sized) qs f (rw stated-is at w) in
         rw (stated-is, j, c) (cut-4 n d (a .sized) qs f) ∙ front-is n d (a .sized) ps on v ∙ sym (bytes-are ∙ ap (λ (i : ℕ). bytesIn i (flatMap (bytesOf n d) ps)) t)
 
   -- ---- the two returns
-  module _ (w : Bool) (y : List ℕ) (total : ℕ) (e : FileEntry) (raw : List ℕ) (m : Mark) (o : List ℕ) (q : e ≡ fileEntry (entryFrom d x)) (g : raw ≡ entryFrom d x .raw) where
+  module _ (w : Bool) (y : List ℕ) (total : ℕ) (e : EntryHead) (raw : List ℕ) (m : Mark) (o : List ℕ) (q : e ≡ entryHead (entryFrom d x)) (g : raw ≡ entryFrom d x .raw) where
     entry-made : (xs : List ℕ) → xs ≡ a .file .bytes → (r : Mark) (o′ : List ℕ)
         → Made (withFile w y total (passOf m o) (fileWith e raw xs)) 261 m o o′ r → Made (withEntry w y n d total (passOf m o) (entryFrom d x)) 261 m o o′ r
     unfolding withEntry
     entry-made xs h r o′ u =
-        let f : fileWith e raw xs ≡ a .file = ap (λ (i : FileEntry). fileWith i raw xs) q ∙ rw (g, h) refl ∙ with-bytes n d x (a .file) (a .is) in
+        let f : fileWith e raw xs ≡ a .file = ap (λ (i : EntryHead). fileWith i raw xs) q ∙ rw (g, h) refl ∙ with-bytes n d x (a .file) (a .is) in
         rw (withEntry, a .is) (subst (λ (i : File). Made (withFile w y total (passOf m o) i) 261 m o o′ r) f u)
 
     pub entry-other : (e .«file_type» ≡ 4 → ⊥) → (z : List ℕ) (r : Mark) (o′ : List ℕ)
         → Made (withFile w y total (passOf m o) (fileWith e raw (collected d z 0))) 261 m o o′ r → Made (withEntry w y n d total (passOf m o) (entryFrom d x)) 261 m o o′ r
     unfolding collected flatMap
     entry-other k z r o′ u =
-        let t : entryFrom d x .kind ≡ 4 → ⊥ = λ i. k (ap (λ (j : FileEntry). j .«file_type») q ∙ i) in
+        let t : entryFrom d x .kind ≡ 4 → ⊥ = λ i. k (ap (λ (j : EntryHead). j .«file_type») q ∙ i) in
         let s : ℕ = statedIn d z in
         let c : collected d z 0 ≡ [] = cut-nil (sizeBy 0 s) (startBy 0 s) in
         entry-made (collected d z 0) (c ∙ sym (bytes-are ∙ bytesIn-binary (entryFrom d x .kind) (flatMap (bytesOf n d) ps) t)) r o′ u

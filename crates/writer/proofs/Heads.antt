@@ -4,14 +4,14 @@ use mathlib.Core.Bool.{Bool, cond}
 use mathlib.Core.List.{List, [], map, foldl}
 use Prim.Native.Nat.{ℕ, _+_, _-_, _*_, _/_, _%_, _<_, _≤_}
 use native.Mathlib.Omega.{arith}
-use lib.ListN.{length, take, drop, getD}
+use lib.ListN.{length, getD}
 use lib.Dec.{eqb}
 use borrow.Author.Tests.{eq-eqb, ne-eqb, le-leb, lt-leb}
 use borrow.Author.Needs.{needs}
 use Rattle.lists.specs.Fill.{below}
 use Rattle.lists.specs.Words.{wordAt}
 use Rattle.lists.proofs.Select.{onward, onward-next, onward-end}
-use Rattle.catalog.specs.declared.FileEntry.{FileEntry}
+use Rattle.catalog.specs.declared.EntryHead.{EntryHead}
 use Rattle.files.specs.Contents.{File}
 use Rattle.files.specs.Survey.{blocksFor}
 use Rattle.archive.specs.Archive.{entryBlock}
@@ -37,7 +37,7 @@ data-some k b h = rw (ne-eqb _ _ h) refl
 pub ruleset links = (entry-last, entry-on, data-none, data-some, needs)
 
 -- ---- an entry block
-pub head-made : (t b k size : ℕ) (e : FileEntry) (raw : List ℕ) (u v : ℕ) (r : List ℕ) → u ≡ cond (eqb (b + 1 + k) t) 0 (b + 1 + k) % 65536 → v ≡ cond (eqb k 0) 0 (b + 1) % 65536
+pub head-made : (t b k size : ℕ) (e : EntryHead) (raw : List ℕ) (u v : ℕ) (r : List ℕ) → u ≡ cond (eqb (b + 1 + k) t) 0 (b + 1 + k) % 65536 → v ≡ cond (eqb k 0) 0 (b + 1) % 65536
     → r ≡ entryBytes u v size (e .«file_type») (e .locked) raw (e .count) → r ≡ headAt t b k size (fileWith e raw [])
 unfolding entryBytes
 head-made t b k size e raw u v r p q z =

@@ -15,7 +15,7 @@ use Rattle.lists.specs.Fill.{tab, below}
 use Rattle.lists.proofs.Split.{by-test, by-lt}
 use Rattle.lists.proofs.Cuts.{drop-take, take-min}
 use Rattle.lists.proofs.Chunks.{length-chunks, drop-chunks}
-use Rattle.catalog.specs.declared.FileEntry.{FileEntry}
+use Rattle.catalog.specs.declared.EntryHead.{EntryHead}
 use Rattle.files.specs.Contents.{File}
 use Rattle.files.specs.Copies.{cutOf}
 use Rattle.files.specs.Survey.{blocksFor}
@@ -142,7 +142,7 @@ module _ (d ns : List ℕ) where
         rw (length-take, length-drop, l) (omega (arith, extent))
 
     -- ---- the blocks of an entry
-    module _ (w : Bool) (a : List ℕ) (total : ℕ) (e : FileEntry) (raw : List ℕ) (m₀ : Mark) (o : List ℕ) where
+    module _ (w : Bool) (a : List ℕ) (total : ℕ) (e : EntryHead) (raw : List ℕ) (m₀ : Mark) (o : List ℕ) where
       blocks-are : (size start k : ℕ) → size ≡ sizeBy m (statedIn d ns) → start ≡ startBy m (statedIn d ns) → k ≡ (size + 253) / 254
           → fileBlocks total (m₀ .block) (fileWith e raw (collected d ns m))
           ≡ headAt total (m₀ .block) k size (fileWith e raw []) ∷ map (madeAt d ns start size k (m₀ .block + 1)) (below k)

@@ -13,7 +13,7 @@ use Rattle.outcome.specs.Outcome.{Outcome, refused, given, _>>=_, each}
 use Rattle.disk.specs.Chain.{walk}
 use Rattle.disk.specs.declared.Place.{Place}
 use Rattle.disk.specs.Disk.{start, sectors}
-use Rattle.catalog.specs.declared.FileEntry.{FileEntry}
+use Rattle.catalog.specs.declared.EntryHead.{EntryHead}
 use Rattle.catalog.specs.Catalog.{Entry, entryFrom, live, entriesOf, soundPage, nextPage}
 use Rattle.files.specs.declared.Spot.{Spot}
 use Rattle.files.specs.Contents.{File, fileOf}
@@ -84,7 +84,7 @@ unfoldable pub fileBlocks : (n b : ℕ) → File → List (List ℕ)
 fileBlocks n b f = headAt n b (dataBlocks f) (length (f .bytes)) f ∷ map (dataAt (dataBlocks f) (b + 1) (f .bytes)) (below (dataBlocks f))
 
 -- an entry as it was read, with these name bytes (the first 30) and these bytes
-abbrev pub fileWith : FileEntry → (raw xs : List ℕ) → File
+abbrev pub fileWith : EntryHead → (raw xs : List ℕ) → File
 fileWith e raw xs =
     record {
       kind = e .«file_type»;

@@ -14,12 +14,11 @@ ghost use Rattle.writer.specs.Passes.{freshMark, passOf, sectorAt, headO
 ghost use Rattle.files.specs.Survey.{blocksFor};
 use archive::entry_block;
 use archive::first_block;
-use catalog::FileEntry;
-use catalog::Name;
+use catalog::EntryHead;
+use catalog::entry_head;
 use catalog::entry_start;
 use catalog::first_page;
 use catalog::last_page;
-use catalog::parse_file_entry;
 use catalog::raw_name;
 use catalog::valid_file;
 use disk::Place;
@@ -342,7 +341,7 @@ fn first_data(k: u32, b: u32) -> u16
 }
 
 // The entry block of an entry with these name bytes, and `size` bytes in k data blocks.
-fn make_head(total: u32, b: u32, k: u32, size: u32, e: FileEntry, raw: &[u8]) -> [u8; 256]
+fn make_head(total: u32, b: u32, k: u32, size: u32, e: EntryHead, raw: &[u8]) -> [u8; 256]
     requires { ⌜ (b ≤ 20000000) × (k ≤ 1000) ⌝ }
     ensures { λ r. ⌜ r ≡ headAt total b k size (fileWith e (now (raw .entry)) []) ⌝ }
 {
@@ -358,7 +357,7 @@ fn emit_head(
     total: u32,
     k: u32,
     size: u32,
-    e: FileEntry,
+    e: EntryHead,
     raw: &[u8],
     m: Mark,
     out: &mut [u8],
@@ -411,7 +410,7 @@ fn emit_blocks(
     total: u32,
     places: &[u32],
     n: usize,
-    e: FileEntry,
+    e: EntryHead,
     raw: &[u8],
     m: Mark,
     out: &mut [u8],
@@ -442,7 +441,7 @@ fn emit_file(
     requires { ⌜ Has per (now disk) (entryFrom (now disk) x) × (m .block ≤ 18000000) ⌝ }
     ensures { λ r. ⌜ Made (withEntry write (now (archive .entry)) per (now (disk .entry)) total (passOf m (now (out .entry))) (entryFrom (now (disk .entry)) x)) 261 m (now (out .entry)) (now (out .exit)) r ⌝ }
 {
-    let e = parse_file_entry(disk, x);
+    let e = entry_head(disk, x);
     let raw = raw_name(disk, x);
     let list = e.list;
     let mut places = [0u32; 257];

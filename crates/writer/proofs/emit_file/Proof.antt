@@ -6,7 +6,7 @@ pub emit-file-spec : {M : Type 1} → statement M
 emit-file-spec =
     tie.close
     (tie.spec
-    (λ c κs. search entries)  -- parse-file-entry-requires
+    (λ c κs. search entries)  -- entry-head-requires
     (λ c κs. search entries)  -- raw-name-requires
     (λ c. search entries)  -- slice-aggregate-emit-blocks
     (λ c κs. search entries)  -- emit-blocks-requires
