@@ -13,7 +13,7 @@ use disk::sectors_of;
 use libc::STDOUT_FILENO;
 use lists::byte_at;
 
-// The two show alike: an accepted name holds no 80h.
+// The two show alike: letter by letter, since both have 30 bytes, and the letter of a byte is the byte without its high bit, since none is 80h.
 fn show_alike(a: &[u8], b: &[u8]) -> bool {
     for k in 0..30u8 {
         if byte_at(a, k as usize) % 128 != byte_at(b, k as usize) % 128 {
