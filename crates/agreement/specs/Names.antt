@@ -28,7 +28,7 @@ table = padded 256 ((0 ∷ 17 ∷ 1 ∷ 3 ∷ 0 ∷ 0 ∷ 254 ∷ []) ++ (replic
 abbrev pub page : ℕ → List ℕ
 page b = padded 256 (replicate 11 0 ++ ((18 ∷ 0 ∷ 4 ∷ []) ++ (cut b ++ (1 ∷ 0 ∷ []))))
 
--- the disk: zeros before and behind, so that the list has no pairs
+-- the disk: these two sectors at 17/0 and 17/1, and zeros everywhere else, so that the list has no pairs
 unfoldable pub disk : ℕ → List ℕ
 disk b = replicate 69632 0 ++ (table ++ (page b ++ replicate 73216 0))
 
@@ -41,9 +41,9 @@ pub record Names : Type 0 where
   pub long : (b : ℕ) → length (disk b) ≡ 143360
   pub held : (b : ℕ) → (b ≡ 0x80 → ⊥) → contentsOf (flat (disk b)) ≡ given (holding b)
   pub bad : contentsOf (flat (disk 0x80)) ≡ refused BadLetter
-  -- C1h and 41h: the same name is shown, ..
+  -- with C1h and with 41h the same name is shown, ..
   pub alike : (shown (cut 0xC1) ≡ 0x41 ∷ []) × (shown (cut 0x41) ≡ 0x41 ∷ [])
-  -- .. and fetches the file, here one without bytes, ..
+  -- .. by it the file is fetched from both, here one without bytes, ..
   pub found : (fetched (perOf (disk 0xC1)) (disk 0xC1) (0x41 ∷ []) ≡ given []) × (fetched (perOf (disk 0x41)) (disk 0x41) (0x41 ∷ []) ≡ given [])
   -- .. the contents are not equal, ..
   pub apart : EqualContents (flat (disk 0xC1)) (flat (disk 0x41)) → ⊥
