@@ -158,14 +158,10 @@ module _ (b : ℕ) where
   unfolding archiveOf blocksIn
   archived-is h = rw (held-is h) refl
 
--- fetched as "A"
-fetched-C1 : fetched (perOf (disk 0xC1)) (disk 0xC1) (0x41 ∷ []) ≡ given []
-unfolding fetched lastNamed same shown trimmed
-fetched-C1 = rw (held-is 0xC1 (λ q. omega arith)) refl
-
-fetched-41 : fetched (perOf (disk 0x41)) (disk 0x41) (0x41 ∷ []) ≡ given []
-unfolding fetched lastNamed same shown trimmed
-fetched-41 = rw (held-is 0x41 (λ q. omega arith)) refl
+-- one that shows "A" is fetched by it
+fetched-as : (b : ℕ) → (b ≡ 0x80 → ⊥) → shown (cut b) ≡ 0x41 ∷ [] → fetched (perOf (disk b)) (disk b) (0x41 ∷ []) ≡ given []
+unfolding fetched lastNamed same
+fetched-as b h e = rw (held-is b h, e) refl
 
 -- 80h
 page-bad : soundPage 16 (disk 0x80) (place 17 1) ≡ refused BadLetter
@@ -201,7 +197,7 @@ names =
       held = held-is;
       bad = bad-is;
       alike = (refl, refl);
-      found = (fetched-C1, fetched-41);
+      found = (fetched-as 0xC1 (λ q. omega arith) refl, fetched-as 0x41 (λ q. omega arith) refl);
       apart = λ e. differ (same-held 0xC1 0x41 (λ q. omega arith) (λ q. omega arith) e);
       archived = archived-is;
       archives = archives-differ;
