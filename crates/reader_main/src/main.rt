@@ -1,56 +1,21 @@
-// Answers of the archive reader. Standard input is a script, a line of five bytes in hexadecimal for each step, high bytes first. It works on bytes that
+// Answers of the archive reader. Standard input is a script, a line of six bytes in hexadecimal for each step, high bytes first; what is not named is 00. It works on bytes that
 // start as zeros, of which a front is in use:
 //     00 AA BB DD VV    put VV at place AABBDD
-//     01 AA BB DD 00    let AABBDD bytes be in use
+//     01 AA BB DD       let AABBDD bytes be in use
 //     02 KK KK JJ JJ    let each block from KKKK on, and before JJJJ, be linked to the next
-//     03 00 00 00 00    open the archive
-//     04 KK KK 00 00    show the entry that block KKKK has, looked at alone, and its name, as it is shown and as it is cut
-//     05 KK KK 00 00    show the entry that block KKKK has in the archive
+//     03                open the archive
+//     04 KK KK          show the entry that block KKKK has, looked at alone, and its name, as it is shown and as it is cut
+//     05 KK KK          show the entry that block KKKK has in the archive
 //     06 KK KK LL LL    show the data of block KKKK, where LLLL bytes are left
-//     07 00 00 00 00    step through the entries of the archive
+//     07                step through the entries of the archive
 //     08 KK KK JJ JJ    let the 30 name bytes of each block from KKKK on, and before JJJJ, be A0h
 //     09 KK KK JJ JJ    let them be 0
-ghost use mathlib.Core.Path.{_≡_};
-ghost use Prim.Native.Nat.{_<_};
-ghost use lib.ListN.{length};
-use libc::STDIN_FILENO;
-use libc::STDOUT_FILENO;
 use reader::Entry;
-
-fn print(text: &[u8]) {
-    io::write_all(STDOUT_FILENO, text);
-}
-
-fn print_number(text: &[u8], n: u64) {
-    print(text);
-    print(b" ");
-    io::print_decimal(STDOUT_FILENO, n);
-}
-
-fn print_line(text: &[u8], n: u64) {
-    print_number(text, n);
-    print(b"\n");
-}
-
-fn print_front(text: &[u8], n: usize) {
-    if n <= text.len() {
-        print(&text[0..n]);
-    }
-}
-
-fn print_word(word: outcome::Word) {
-    let letters = word.0;
-    print_front(&letters, word.1 as usize);
-}
-
-fn refusal_line(text: &[u8], number: u8) {
-    print_number(text, number as u64);
-    if number != 0 {
-        print(b", ");
-        print_word(outcome::refusal_word(number));
-    }
-    print(b"\n");
-}
+use trial::place;
+use trial::print;
+use trial::print_line;
+use trial::print_number;
+use trial::refusal_line;
 
 fn show_open(archive: &[u8]) {
     let o = reader::open(archive);
@@ -76,22 +41,14 @@ fn entry_lines(text: &[u8], e: Entry) {
     fields_line(e);
 }
 
-fn raw_line(raw: &[u8]) {
-    print(b"  as cut");
-    let mut i: usize = 0;
-    while i < raw.len() {
-        print_number(b"", lists::byte_at(raw, i) as u64);
-        i += 1;
-    }
-    print(b"\n");
-}
-
 fn show_next(archive: &[u8], block: u16) {
     entry_lines(b"block: refusal", cursor::entry_from(archive, block));
     print(b"  name ");
     print(reader::entry_name(archive, block as u64));
     print(b"\n");
-    raw_line(reader::entry_raw_name(archive, block as u64));
+    print(b"  as cut");
+    trial::print_decimals(reader::entry_raw_name(archive, block as u64));
+    print(b"\n");
 }
 
 fn show_entry(archive: &[u8], block: u64) {
@@ -124,30 +81,13 @@ fn show_steps(archive: &[u8]) {
     print(b"steps: no end\n");
 }
 
-fn wide(x: u8) -> usize
-    ensures { λ r. ⌜ r < 256 ⌝ }
-{
-    x as usize
-}
-
-fn place(high: u8, middle: u8, low: u8) -> usize
-    ensures { λ r. ⌜ r < 16777216 ⌝ }
-{
-    65536 * wide(high) + 256 * wide(middle) + wide(low)
-}
-
+// The number of a block.
 fn number(high: u8, low: u8) -> u64 {
-    (256 * wide(high) + wide(low)) as u64
+    trial::number(high, low) as u64
 }
 
 fn block_number(high: u8, low: u8) -> u16 {
-    (256 * wide(high) + wide(low)) as u16
-}
-
-fn poke(bytes: &mut [u8], at: usize, v: u8) {
-    if at < bytes.len() {
-        bytes[at] = v;
-    }
+    trial::number(high, low) as u16
 }
 
 fn chain(bytes: &mut [u8], from: u64, to: u64) {
@@ -172,7 +112,7 @@ fn names(bytes: &mut [u8], from: u64, to: u64, v: u8) {
     }
 }
 
-fn show(archive: &[u8], step: [u8; 5]) {
+fn show(archive: &[u8], step: [u8; 6]) {
     let command = step[0];
     match command {
         3 => show_open(archive),
@@ -184,78 +124,38 @@ fn show(archive: &[u8], step: [u8; 5]) {
     }
 }
 
-fn act(bytes: &mut [u8], used: usize, step: [u8; 5]) -> usize {
-    let command = step[0];
-    if command == 0 {
-        poke(bytes, place(step[1], step[2], step[3]), step[4]);
-        return used;
+fn act(bytes: &mut [u8], used: usize, step: [u8; 6]) -> usize {
+    let from = number(step[1], step[2]);
+    let to = number(step[3], step[4]);
+    match step[0] {
+        0 => trial::poke(bytes, place(step[1], step[2], step[3]), step[4]),
+        1 => {
+            return place(step[1], step[2], step[3]);
+        },
+        2 => chain(bytes, from, to),
+        8 => names(bytes, from, to, 160),
+        9 => names(bytes, from, to, 0),
+        _ => show(lists::part(bytes, 0, used), step),
     }
-    if command == 1 {
-        return place(step[1], step[2], step[3]);
-    }
-    if command == 2 {
-        chain(bytes, number(step[1], step[2]), number(step[3], step[4]));
-        return used;
-    }
-    if command == 8 {
-        names(
-            bytes,
-            number(step[1], step[2]),
-            number(step[3], step[4]),
-            160,
-        );
-        return used;
-    }
-    if command == 9 {
-        names(bytes, number(step[1], step[2]), number(step[3], step[4]), 0);
-        return used;
-    }
-    show(lists::part(bytes, 0, used), step);
     used
 }
 
-fn digit(c: u8) -> u8
-    ensures { λ r. ⌜ r < 16 ⌝ }
-{
-    if c < 58 {
-        c % 48 % 16
-    } else {
-        (c % 16 + 9) % 16
-    }
-}
-
-fn hex(high: u8, low: u8) -> u8 {
-    16 * digit(high) + digit(low)
-}
-
-fn step_of(line: &[u8; 15]) -> [u8; 5] {
-    [
-        hex(line[0], line[1]),
-        hex(line[3], line[4]),
-        hex(line[6], line[7]),
-        hex(line[9], line[10]),
-        hex(line[12], line[13]),
-    ]
-}
-
 fn run(bytes: &mut [u8]) {
-    let mut line = [0u8; 15];
     let mut used: usize = 0;
     let mut left: u32 = 100000;
     while left > 0 {
-        let n = io::read_full(STDIN_FILENO, &mut line);
-        if n < 15 {
+        let s = trial::next_step();
+        if !s.more {
             return;
         }
-        used = act(bytes, used, step_of(&line));
+        let step = s.bytes;
+        used = act(bytes, used, step);
         left -= 1;
     }
 }
 
-// 4,097 blocks. The `ensures` gives only the length, which lending the array needs.
-fn blocks() -> [u8; 1048832]
-    ensures { λ r. ⌜ 1048832 ≡ length r ⌝ }
-{
+// 4,097 blocks. What they hold is not promised, so that lending them costs no proof.
+fn blocks() -> [u8; 1048832] {
     [0; 1048832]
 }
 

@@ -1,89 +1,33 @@
-// Answers of the record writers and of the recogniser. Standard input is a script, a line of five bytes in hexadecimal for each step, on an input of zeros.
+// Answers of the record writers and of the recogniser. Standard input is a script, a line of six bytes in hexadecimal for each step, on an input of zeros; what is not named is 00.
 // A number AA BB DD has its high byte first. Space is lent of LLLL bytes, 4,096 at most, each of them 55h:
 //     00 AA BB DD VV    put VV at place AABBDD of the input
-//     01 LL LL NN 00    write the entry: bytes 0 to 5 of the input are list track, list sector, type, lock, sector count; the name is NN bytes from 16 on
+//     01 LL LL NN       write the entry: bytes 0 to 5 of the input are list track, list sector, type, lock, sector count; the name is NN bytes from 16 on
 //     02 LL LL EE EE    write the page: the entries are EEEE bytes from 16 on; the header is as many bytes from 0 on as byte 15 says
 //     03 LL LL NN NN    write the file: bytes 0 to 4 are type, address, size; its data is NNNN bytes from 16 on
-//     04 AA BB DD 00    show the format of the first AABBDD bytes
-ghost use Prim.Native.Nat.{_<_};
+//     04 AA BB DD       show the format of the first AABBDD bytes
 use disk::Place;
 use disk::Sector;
 use disk::Track;
-use libc::STDIN_FILENO;
-use libc::STDOUT_FILENO;
 use lists::byte_at;
 use lists::part;
 use lists::word_at;
 use outcome::Handed;
+use trial::handed_line;
+use trial::number;
+use trial::place;
+use trial::print;
+use trial::print_line;
 
-fn print(text: &[u8]) {
-    io::write_all(STDOUT_FILENO, text);
-}
-
-fn print_line(text: &[u8], n: u64) {
-    print(text);
-    print(b" ");
-    io::print_decimal(STDOUT_FILENO, n);
-    print(b"\n");
-}
-
-fn digit_of(n: u8) -> u8 {
-    if n < 10 {
-        return 48 + n % 10;
-    }
-    55 + n % 16
-}
-
-fn byte_hex(b: u8) {
-    print(&[32, digit_of(b / 16), digit_of(b % 16)]);
-}
-
-fn print_byte(bytes: &[u8], i: usize) {
-    if i < bytes.len() {
-        byte_hex(byte_at(bytes, i));
-    }
-}
-
-// The first 256 bytes.
-fn bytes_line(bytes: &[u8]) {
-    print(b"  bytes");
-    for i in 0..256u16 {
-        print_byte(bytes, i as usize);
-    }
-    print(b"\n");
-}
-
-fn print_front(text: &[u8], n: usize) {
-    if n <= text.len() {
-        print(&text[0..n]);
-    }
-}
-
-fn print_word(word: outcome::Word) {
-    let letters = word.0;
-    print_front(&letters, word.1 as usize);
-}
-
-fn refusal_line(text: &[u8], number: u8) {
-    print(text);
-    print(b" ");
-    io::print_decimal(STDOUT_FILENO, number as u64);
-    if number != 0 {
-        print(b", ");
-        print_word(outcome::refusal_word(number));
-    }
-    print(b"\n");
-}
-
+// The first 256 bytes that were handed over, and the byte behind all of them.
 fn handed_lines(text: &[u8], h: Handed, space: &[u8]) {
-    let before = [0x55u8; 4096];
-    refusal_line(text, h.refusal);
-    print_line(b"  length", h.length as u64);
-    if lists::same(part(&before, 0, space.len()), space) {
+    handed_line(text, h);
+    if trial::untouched(space) {
         print(b"  nothing changed\n");
         return;
     }
-    bytes_line(part(space, 0, h.length));
+    print(b"  bytes");
+    trial::print_hex(part(part(space, 0, h.length), 0, 256));
+    print(b"\n");
     print_line(b"  behind", byte_at(space, h.length) as u64);
 }
 
@@ -116,7 +60,7 @@ fn show_file(input: &[u8], space: &mut [u8], n: usize) {
 
 fn show_format(input: &[u8], n: usize) {
     let f = records::format_from_data(part(input, 0, n));
-    refusal_line(b"format: refusal", f.refusal);
+    trial::refusal_line(b"format: refusal", f.refusal);
     if f.dos33 {
         print(b"  DOS 3.3\n");
         return;
@@ -124,25 +68,7 @@ fn show_format(input: &[u8], n: usize) {
     print(b"  not DOS 3.3\n");
 }
 
-fn wide(x: u8) -> usize
-    ensures { λ r. ⌜ r < 256 ⌝ }
-{
-    x as usize
-}
-
-fn number(high: u8, low: u8) -> usize
-    ensures { λ r. ⌜ r < 65536 ⌝ }
-{
-    256 * wide(high) + wide(low)
-}
-
-fn place(high: u8, middle: u8, low: u8) -> usize
-    ensures { λ r. ⌜ r < 16777216 ⌝ }
-{
-    65536 * wide(high) + 256 * wide(middle) + wide(low)
-}
-
-fn show(input: &[u8], space: &mut [u8], step: [u8; 5]) {
+fn show(input: &[u8], space: &mut [u8], step: [u8; 6]) {
     let command = step[0];
     match command {
         1 => show_entry(input, space, step[3]),
@@ -152,67 +78,42 @@ fn show(input: &[u8], space: &mut [u8], step: [u8; 5]) {
     }
 }
 
-fn show_lent(input: &[u8], step: [u8; 5]) {
-    let mut space = [0x55u8; 4096];
+fn show_lent(input: &[u8], step: [u8; 6]) {
+    let mut space = trial::space();
     let size = number(step[1], step[2]);
-    if size <= 4096 {
+    if size <= space.len() {
         show(input, &mut space[0..size], step);
     }
 }
 
-fn poke(input: &mut [u8], at: usize, v: u8) {
-    if at < input.len() {
-        input[at] = v;
-    }
-}
-
-fn act(input: &mut [u8], step: [u8; 5]) {
+fn act(input: &mut [u8], step: [u8; 6]) {
     let command = step[0];
-    if command == 0 {
-        poke(input, place(step[1], step[2], step[3]), step[4]);
-        return;
-    }
-    if command == 4 {
-        show_format(input, place(step[1], step[2], step[3]));
-        return;
-    }
-    show_lent(input, step);
-}
-
-fn digit(c: u8) -> u8
-    ensures { λ r. ⌜ r < 16 ⌝ }
-{
-    if c < 58 {
-        c % 48 % 16
-    } else {
-        (c % 16 + 9) % 16
+    match command {
+        0 => trial::poke(input, place(step[1], step[2], step[3]), step[4]),
+        4 => show_format(input, place(step[1], step[2], step[3])),
+        _ => show_lent(input, step),
     }
 }
 
-fn hex(high: u8, low: u8) -> u8 {
-    16 * digit(high) + digit(low)
+fn run(input: &mut [u8]) {
+    let mut left: u32 = 100000;
+    while left > 0 {
+        let s = trial::next_step();
+        if !s.more {
+            return;
+        }
+        let step = s.bytes;
+        act(input, step);
+        left -= 1;
+    }
 }
 
-fn step_of(line: &[u8; 15]) -> [u8; 5] {
-    [
-        hex(line[0], line[1]),
-        hex(line[3], line[4]),
-        hex(line[6], line[7]),
-        hex(line[9], line[10]),
-        hex(line[12], line[13]),
-    ]
+// One byte more than `format_from_data` looks at, and some. What it holds is not promised, so that lending it costs no proof.
+fn zeros() -> [u8; 69700] {
+    [0; 69700]
 }
 
 fn main() {
-    let mut input = [0u8; 69700];
-    let mut line = [0u8; 15];
-    let mut left: u32 = 100000;
-    while left > 0 {
-        let n = io::read_full(STDIN_FILENO, &mut line);
-        if n < 15 {
-            return;
-        }
-        act(&mut input, step_of(&line));
-        left -= 1;
-    }
+    let mut input = zeros();
+    run(&mut input);
 }

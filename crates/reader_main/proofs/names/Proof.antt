@@ -1,6 +1,6 @@
+use Prim.Native.Nat.{_-_}
 use lib.ListN.{length}
 use mathlib.Core.Path.{_≡_}
-use Prim.Native.Nat.{_-_}
 use borrow.Author.Needs.{needs}
 use Rattle.reader_main.proofs.names.Statement.{statement}
 use Rattle.reader_main.proofs.names.Tie as tie

@@ -5,10 +5,10 @@ use Rattle.reader_main.proofs.run.Statement.{statement}
 use Rattle.reader_main.proofs.run.Tie as tie
 
 abbrev Inv-loop : tie.InvT-loop
-Inv-loop bytes₀ line₀ used₀ left₀ bytes line used left = (length bytes ≡ length bytes₀) × (length line ≡ 15)
+Inv-loop bytes₀ used₀ left₀ bytes used left = length bytes ≡ length bytes₀
 
 abbrev μ-loop : tie.MeasureT-loop
-μ-loop bytes₀ line₀ used₀ left₀ bytes line used left = left
+μ-loop bytes₀ used₀ left₀ bytes used left = left
 
 pub run-spec : {M : Type 1} → statement M
 run-spec =
@@ -17,11 +17,9 @@ run-spec =
     Inv-loop
     μ-loop
     (λ c. search needs)  -- loop-holds
-    (λ c. search needs)  -- slice-aggregate-read-full
-    (λ c κs. search needs)  -- read-full-requires
+    (λ c κs. search needs)  -- next-step-requires
     (λ c. search needs)  -- same-length
     (λ c. search needs)  -- returns
-    (λ c κs. search needs)  -- step-of-requires
     (λ c κs. search needs)  -- act-requires
     (λ c. search needs)  -- sub-left
     (λ c. search needs)  -- loop-less

@@ -1,10 +1,10 @@
-use Prim.Native.Nat.{_-_, _≤_, _<_}
+use Prim.Native.Nat.{_-_, _≤_}
 use borrow.Author.Needs.{needs}
 use Rattle.reader_main.proofs.show_steps.Statement.{statement}
 use Rattle.reader_main.proofs.show_steps.Tie as tie
 
 abbrev Inv-loop : tie.InvT-loop
-Inv-loop archive block₀ count₀ t5 t6 block count = (count ≤ 5000) × (block < 65536)
+Inv-loop archive block₀ count₀ t5 t6 block count = count ≤ 5000
 
 abbrev μ-loop : tie.MeasureT-loop
 μ-loop archive block₀ count₀ t5 t6 block count = 5000 - count

@@ -4,10 +4,10 @@ use Rattle.writer_main.proofs.block_lines.Statement.{statement}
 use Rattle.writer_main.proofs.block_lines.Tie as tie
 
 abbrev Inv-loop : tie.InvT-loop
-Inv-loop part block₀ block = block ≤ 5
+Inv-loop bytes block₀ block = block ≤ 5
 
 abbrev μ-loop : tie.MeasureT-loop
-μ-loop part block₀ block = 5 - block
+μ-loop bytes block₀ block = 5 - block
 
 pub block-lines-spec : {M : Type 1} → statement M
 block-lines-spec =

@@ -2,22 +2,21 @@ use Prim.Native.Nat.{_-_, _≤_}
 use lib.ListN.{length}
 use mathlib.Core.Path.{_≡_}
 use borrow.Author.Needs.{needs}
-use Rattle.writer_main.proofs.fill_ramp.Statement.{statement}
-use Rattle.writer_main.proofs.fill_ramp.Tie as tie
+use Rattle.trial.proofs.put_ramp.Statement.{statement}
+use Rattle.trial.proofs.put_ramp.Tie as tie
 
 abbrev Inv-loop : tie.InvT-loop
-Inv-loop disk₀ track sector first at i₀ disk i = (i ≤ 256) × (length disk ≡ length disk₀)
+Inv-loop bytes₀ at first start i₀ bytes i = (i ≤ 256) × (length bytes ≡ length bytes₀)
 
 abbrev μ-loop : tie.MeasureT-loop
-μ-loop disk₀ track sector first at i₀ disk i = 256 - i
+μ-loop bytes₀ at first start i₀ bytes i = 256 - i
 
-pub fill-ramp-spec : {M : Type 1} → statement M
-fill-ramp-spec =
+pub put-ramp-spec : {M : Type 1} → statement M
+put-ramp-spec =
     tie.close
     (tie.spec
     Inv-loop
     μ-loop
-    (λ c κs. search needs)  -- place-requires
     (λ c. search needs)  -- loop-holds
     (λ c. search needs)  -- cast-poke
     (λ c. search needs)  -- add-poke

@@ -1,26 +1,26 @@
 use Prim.Native.Nat.{_-_, _≤_}
 use lib.ListN.{length}
 use borrow.Author.Needs.{needs}
-use Rattle.writer_main.proofs.untouched.Statement.{statement}
-use Rattle.writer_main.proofs.untouched.Tie as tie
+use Rattle.trial.proofs.sum_of.Statement.{statement}
+use Rattle.trial.proofs.sum_of.Tie as tie
 
 abbrev Inv-loop : tie.InvT-loop
-Inv-loop part i₀ i = i ≤ length part
+Inv-loop bytes sum₀ i₀ sum i = i ≤ length bytes
 
 abbrev μ-loop : tie.MeasureT-loop
-μ-loop part i₀ i = length part - i
+μ-loop bytes sum₀ i₀ sum i = length bytes - i
 
-pub untouched-spec : {M : Type 1} → statement M
-untouched-spec =
+pub sum-of-spec : {M : Type 1} → statement M
+sum-of-spec =
     tie.close
     (tie.spec
     Inv-loop
     μ-loop
     (λ c. search needs)  -- loop-holds
     (λ c κs. search needs)  -- byte-at-requires
-    (λ c. search needs)  -- returns
+    (λ c κs. search needs)  -- summed-requires
     (λ c. search needs)  -- add-i
     (λ c. search needs)  -- loop-less
     (λ c. search needs)  -- loop-again
-    (λ c. search needs)  -- returns-2
+    (λ c. search needs)  -- returns
     )

@@ -1,23 +1,21 @@
 use Prim.Native.Nat.{_-_, _≤_}
 use lib.ListN.{length}
 use borrow.Author.Needs.{needs}
-use Rattle.reader_main.proofs.raw_line.Statement.{statement}
-use Rattle.reader_main.proofs.raw_line.Tie as tie
+use Rattle.trial.proofs.print_decimals.Statement.{statement}
+use Rattle.trial.proofs.print_decimals.Tie as tie
 
 abbrev Inv-loop : tie.InvT-loop
-Inv-loop raw i₀ t4 t5 i = i ≤ length raw
+Inv-loop bytes i₀ t3 i = i ≤ length bytes
 
 abbrev μ-loop : tie.MeasureT-loop
-μ-loop raw i₀ t4 t5 i = length raw - i
+μ-loop bytes i₀ t3 i = length bytes - i
 
-pub raw-line-spec : {M : Type 1} → statement M
-raw-line-spec =
+pub print-decimals-spec : {M : Type 1} → statement M
+print-decimals-spec =
     tie.close
     (tie.spec
     Inv-loop
     μ-loop
-    (λ c. search needs)  -- slice-aggregate-print
-    (λ c κs. search needs)  -- print-requires
     (λ c. search needs)  -- loop-holds
     (λ c. search needs)  -- slice-aggregate-print-number
     (λ c κs. search needs)  -- byte-at-requires
@@ -26,7 +24,5 @@ raw-line-spec =
     (λ c. search needs)  -- add-i
     (λ c. search needs)  -- loop-less
     (λ c. search needs)  -- loop-again
-    (λ c. search needs)  -- slice-aggregate-print-2
-    (λ c κs. search needs)  -- print-requires-2
     (λ c. search needs)  -- returns
     )
