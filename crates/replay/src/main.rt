@@ -21,48 +21,21 @@ use disk::Sector;
 use disk::Track;
 use disk::VolumeTableOfContents;
 use libc::STDIN_FILENO;
-use libc::STDOUT_FILENO;
 use lists::byte_at;
 use lists::part;
 use lists::word_at;
 use outcome::Handed;
-
-fn print(text: &[u8]) {
-    io::write_all(STDOUT_FILENO, text);
-}
-
-fn print_number(text: &[u8], n: u64) {
-    print(text);
-    print(b" ");
-    io::print_decimal(STDOUT_FILENO, n);
-}
+use trial::hex;
+use trial::number;
+use trial::poke;
+use trial::print;
+use trial::print_hex;
+use trial::print_line;
+use trial::print_number;
+use trial::put_ramp;
 
 fn byte_number(text: &[u8], b: u8) {
     print_number(text, b as u64);
-}
-
-fn print_line(text: &[u8], n: u64) {
-    print_number(text, n);
-    print(b"\n");
-}
-
-fn digit_of(n: u8) -> u8 {
-    if n < 10 {
-        return 48 + n % 10;
-    }
-    55 + n % 16
-}
-
-fn byte_hex(b: u8) {
-    print(&[32, digit_of(b / 16), digit_of(b % 16)]);
-}
-
-fn print_bytes(bytes: &[u8]) {
-    let mut i: usize = 0;
-    while i < bytes.len() {
-        byte_hex(byte_at(bytes, i));
-        i += 1;
-    }
 }
 
 fn added(a: u32, b: u32) -> u32
@@ -93,7 +66,7 @@ fn content(bytes: &[u8]) {
     print_number(b", length", bytes.len() as u64);
     if bytes.len() <= 512 {
         print(b", bytes");
-        print_bytes(bytes);
+        print_hex(bytes);
         return;
     }
     print_number(b", sum", adler(bytes));
@@ -155,7 +128,7 @@ fn entry_line(entry: &[u8]) {
     byte_number(b" locked", byte_at(entry, 3));
     print_number(b" sectors", word_at(entry, 35) as u64);
     print(b" name");
-    print_bytes(name_of(entry));
+    print_hex(name_of(entry));
     print(b"\n");
 }
 
@@ -171,7 +144,7 @@ fn file_lines(disk: &[u8], entry: &[u8], space: &mut [u8]) {
     }
     let name = name_of(entry);
     print(b"file");
-    print_bytes(name);
+    print_hex(name);
     print(b"\n");
     let h = files::fetch(disk, name, space);
     answer_line(h, space);
@@ -198,7 +171,7 @@ fn show_load(disk: &[u8], entries: &mut [u8], space: &mut [u8]) {
 
 fn show_sector(nibbles: &[u8], key: [u8; 3], space: &mut [u8]) {
     print(b"sector");
-    print_bytes(&key);
+    print_hex(&key);
     print(b"\n");
     let h = stream::sector(nibbles, key[0], key[1], key[2], space);
     answer_line(h, space);
@@ -258,32 +231,6 @@ fn show_prologue(input: &[u8]) {
     print_line(b"prologue", stream::recognize_prologue(input) as u64);
 }
 
-fn wide(x: u8) -> usize
-    ensures { λ r. ⌜ r < 256 ⌝ }
-{
-    x as usize
-}
-
-fn poke(bytes: &mut [u8], at: usize, v: u8) {
-    if at < bytes.len() {
-        bytes[at] = v;
-    }
-}
-
-fn digit(c: u8) -> u8
-    ensures { λ r. ⌜ r < 16 ⌝ }
-{
-    if c < 58 {
-        c % 48 % 16
-    } else {
-        (c % 16 + 9) % 16
-    }
-}
-
-fn hex(high: u8, low: u8) -> u8 {
-    16 * digit(high) + digit(low)
-}
-
 // Bytes of the six digits.
 fn digits_of(line: &[u8]) -> [u8; 3] {
     [
@@ -297,7 +244,7 @@ fn place_of(line: &[u8]) -> usize
     ensures { λ r. ⌜ r < 16777216 ⌝ }
 {
     let digits = digits_of(line);
-    65536 * wide(digits[0]) + 256 * wide(digits[1]) + wide(digits[2])
+    trial::place(digits[0], digits[1], digits[2])
 }
 
 // How many bytes stand behind the six digits.
@@ -309,17 +256,15 @@ fn count(line: &[u8]) -> usize {
 }
 
 fn byte_of(line: &[u8], k: u8) -> u8 {
-    hex(
-        byte_at(line, 9 + 3 * wide(k)),
-        byte_at(line, 10 + 3 * wide(k)),
-    )
+    let at = 3 * number(0, k);
+    hex(byte_at(line, 9 + at), byte_at(line, 10 + at))
 }
 
 fn put_byte(bytes: &mut [u8], at: usize, line: &[u8], k: u8)
     requires { ⌜ at < 16777216 ⌝ }
 {
-    if wide(k) < count(line) {
-        poke(bytes, at + wide(k), byte_of(line, k));
+    if number(0, k) < count(line) {
+        poke(bytes, at + number(0, k), byte_of(line, k));
     }
 }
 
@@ -328,14 +273,6 @@ fn put(bytes: &mut [u8], at: usize, line: &[u8])
 {
     for k in 0..64u8 {
         put_byte(bytes, at, line, k);
-    }
-}
-
-fn put_ramp(bytes: &mut [u8], at: usize, first: u8)
-    requires { ⌜ at < 16777216 ⌝ }
-{
-    for k in 0..256u16 {
-        poke(bytes, at + k as usize, ((first as u16 + k) % 256) as u8);
     }
 }
 
@@ -373,7 +310,7 @@ fn print_title(line: &[u8]) {
 }
 
 fn fill(input: &mut [u8], line: &[u8]) {
-    let n = 256 * wide(byte_of(line, 0)) + wide(byte_of(line, 1));
+    let n = number(byte_of(line, 0), byte_of(line, 1));
     lists::fill_at(input, place_of(line), n, byte_of(line, 2));
 }
 
@@ -438,11 +375,16 @@ fn run(script: &[u8], input: &mut [u8], entries: &mut [u8], space: &mut [u8]) {
     print(b"too many lines\n");
 }
 
+// Space for 1,000 entries. What it holds is not promised, so that lending it costs no proof.
+fn room() -> [u8; 37000] {
+    [0; 37000]
+}
+
 fn main() {
-    let mut script = [0u8; 65536];
-    let mut input = [0u8; 143360];
-    let mut entries = [0u8; 37000];
-    let mut space = [0u8; 143360];
+    let mut script = io::large_buffer();
+    let mut input = trial::disk();
+    let mut entries = room();
+    let mut space = trial::disk();
     let n = io::read_full(STDIN_FILENO, &mut script);
     if n < 65536 {
         run(

@@ -1,97 +1,93 @@
-// Answers of the nibble stream's calls. Standard input is a script, a line of five bytes in hexadecimal for each step; a place AA BB DD has its high byte first.
-// It works on a flat disk of zeros, on a stream, of which a front is in use, and on an image that starts with zeros:
-//     00 AA BB DD VV    put VV at place AABBDD of the disk
-//     01 00 00 00 00    write the disk as nibbles to the front of the stream, which is then in use
-//     02 AA BB DD VV    put VV at place AABBDD of the stream
-//     03 AA BB DD 00    let AABBDD bytes of the stream be in use
-//     04 KK KK JJ JJ    copy the 416 bytes of block KKKK of the stream over block JJJJ
-//     05 00 00 00 00    show what denibblize answers, and whether the image is the disk
-//     06 VV TT SS 00    show the sector of volume VV, track TT, sector SS
-//     07 AA BB DD 00    show the first pair of fields from place AABBDD on
-//     08 00 00 00 00    show the prologue that is recognized
+// Answers of the calls on nibble streams of both editions. Standard input is a script, a line of six bytes in hexadecimal for each step. The head of laying has the
+// steps that lay disks and the stream, 00 to 08 and 15. KK is an edition, 0D or 10; NNNN and AABBDD are numbers, the high byte first; what is not named is 00:
+//     09 KK NN NN          show what denibblize answers, with space of the disk's size less NNNN bytes, each 55h, and what it leaves
+//     0A KK VV TT SS       show the sector of that address in the stream
+//     0B KK AA BB DD       show the first pair of fields from place AABBDD on
+//     0C                   show the prologue that is recognized
+//     12 KK                show what nibblize answers; if it is not refused, it is the stream
+//     16 NN NN JJ JJ       copy the 416 bytes of block NNNN of the stream over block JJJJ
 ghost use Prim.Native.Nat.{_<_};
-use libc::STDIN_FILENO;
-use libc::STDOUT_FILENO;
+use laying::disk_of;
+use lists::copy_at;
+use lists::part;
+use outcome::Handed;
+use stream::Edition;
+use trial::bytes_line;
+use trial::handed_line;
+use trial::number;
+use trial::place;
+use trial::print;
+use trial::print_line;
+use trial::print_number;
+use trial::refusal_line;
+use trial::sum_of;
+use trial::untouched;
 
-fn print(text: &[u8]) {
-    io::write_all(STDOUT_FILENO, text);
-}
-
-fn print_number(text: &[u8], n: u64) {
-    print(text);
-    print(b" ");
-    io::print_decimal(STDOUT_FILENO, n);
-}
-
-fn byte_number(text: &[u8], b: u8) {
-    print_number(text, b as u64);
-}
-
-fn print_line(text: &[u8], n: u64) {
-    print_number(text, n);
-    print(b"\n");
-}
-
-fn print_front(text: &[u8], n: usize) {
-    if n <= text.len() {
-        print(&text[0..n]);
-    }
-}
-
-fn print_word(word: outcome::Word) {
-    let letters = word.0;
-    print_front(&letters, word.1 as usize);
-}
-
-fn refusal_line(text: &[u8], number: u8) {
-    print_number(text, number as u64);
-    if number != 0 {
-        print(b", ");
-        print_word(outcome::refusal_word(number));
-    }
-    print(b"\n");
-}
-
-fn handed_line(text: &[u8], h: outcome::Handed) {
-    refusal_line(text, h.refusal);
-    print_line(b"  length", h.length as u64);
-}
-
-fn same_line(disk: &[u8], image: &[u8]) {
-    if lists::same(disk, image) {
-        print(b"  the image is the disk\n");
+fn left_line(disk: &[u8], space: &[u8], length: usize) {
+    if untouched(space) {
+        print(b"  nothing changed\n");
         return;
     }
-    print(b"  the image is not the disk\n");
-}
-
-fn write_stream(disk: &[u8], nibbles: &mut [u8], used: usize) -> usize {
-    let h = stream::nibblize(disk, nibbles);
-    handed_line(b"nibblize: refusal", h);
-    if h.refusal == 0 {
-        return h.length;
+    if !untouched(part(space, length, space.len())) {
+        print(b"  more than its length changed\n");
+        return;
     }
-    used
+    if lists::same(disk, part(space, 0, length)) {
+        print(b"  it is the disk\n");
+        return;
+    }
+    print_line(b"  it is another disk, sum", sum_of(part(space, 0, length)));
 }
 
-fn show_image(disk: &[u8], nibbles: &[u8], image: &mut [u8]) {
-    let h = stream::denibblize(nibbles, image);
-    handed_line(b"denibblize: refusal", h);
-    same_line(disk, image);
+fn unrolled(nibbles: &[u8], edition: u8, space: &mut [u8]) -> Handed {
+    if edition == 13 {
+        return stream::denibblize_13(nibbles, space);
+    }
+    stream::denibblize(nibbles, space)
 }
 
-fn show_sector(nibbles: &[u8], volume: u8, track: u8, sector: u8) {
+// What denibblize answers with this space, and what it leaves there.
+fn image_in(disk: &[u8], nibbles: &[u8], edition: u8, space: &mut [u8]) {
+    let h = unrolled(nibbles, edition, space);
+    print_number(b"denibblize", edition as u64);
+    handed_line(b": refusal", h);
+    left_line(disk, space, h.length);
+}
+
+fn show_image(disk: &[u8], nibbles: &[u8], edition: u8, less: usize) {
+    let mut space = trial::disk_of_55();
+    let size = laying::size_of(edition);
+    if less <= size {
+        image_in(disk, nibbles, edition, &mut space[0..size - less]);
+    }
+}
+
+fn fetched(nibbles: &[u8], edition: u8, v: u8, t: u8, s: u8, space: &mut [u8]) -> Handed {
+    if edition == 13 {
+        return stream::sector_13(nibbles, v, t, s, space);
+    }
+    stream::sector(nibbles, v, t, s, space)
+}
+
+fn show_sector(nibbles: &[u8], edition: u8, v: u8, t: u8, s: u8) {
     let mut data = [0u8; 256];
-    let h = stream::sector(nibbles, volume, track, sector, &mut data);
-    handed_line(b"sector: refusal", h);
-    byte_number(b"  first byte", lists::byte_at(&data, 0));
-    byte_number(b", last byte", lists::byte_at(&data, 255));
-    print(b"\n");
+    let h = fetched(nibbles, edition, v, t, s, &mut data);
+    print_number(b"sector", edition as u64);
+    handed_line(b": refusal", h);
+    bytes_line(h, &data);
 }
 
-fn show_pair(nibbles: &[u8], at: usize) {
-    let p = stream::parse_nib_sector(nibbles, at, stream::Edition::Sixteen);
-    refusal_line(b"pair: refusal", p.refusal);
+fn edition_of(edition: u8) -> Edition {
+    if edition == 13 {
+        return Edition::Thirteen;
+    }
+    Edition::Sixteen
+}
+
+fn show_pair(nibbles: &[u8], edition: u8, at: usize) {
+    let p = stream::parse_nib_sector(nibbles, at, edition_of(edition));
+    print_number(b"pair", edition as u64);
+    refusal_line(b": refusal", p.refusal);
     print_number(b"  volume", p.volume as u64);
     print_number(b", track", p.track as u64);
     print_line(b", sector", p.sector as u64);
@@ -103,133 +99,88 @@ fn show_prologue(nibbles: &[u8]) {
     print_line(b"prologue", stream::recognize_prologue(nibbles) as u64);
 }
 
-fn wide(x: u8) -> usize
-    ensures { λ r. ⌜ r < 256 ⌝ }
-{
-    x as usize
+// Space for a disk as nibbles, each byte 55h. What it holds is not promised, so that lending it costs no proof.
+fn space() -> [u8; 232960] {
+    [0x55; 232960]
 }
 
-fn place(high: u8, middle: u8, low: u8) -> usize
-    ensures { λ r. ⌜ r < 16777216 ⌝ }
-{
-    65536 * wide(high) + 256 * wide(middle) + wide(low)
-}
-
-fn number(high: u8, low: u8) -> usize
-    ensures { λ r. ⌜ r < 65536 ⌝ }
-{
-    256 * wide(high) + wide(low)
-}
-
-fn poke(bytes: &mut [u8], at: usize, v: u8) {
-    if at < bytes.len() {
-        bytes[at] = v;
+// How many bytes the stream has afterwards.
+fn write_stream(disk: &[u8], nibbles: &mut [u8], used: usize) -> usize {
+    let mut out = space();
+    let h = stream::nibblize(disk, &mut out);
+    handed_line(b"nibblize: refusal", h);
+    if untouched(&out) {
+        print(b"  nothing changed\n");
     }
-}
-
-fn block_of(nibbles: &[u8], at: usize) -> [u8; 416]
-    requires { ⌜ at < 33554432 ⌝ }
-{
-    let mut block = [0u8; 416];
-    let end = at + 416;
-    if end <= nibbles.len() {
-        lists::copy_at(&nibbles[at..end], &mut block, 0);
-        return block;
+    if h.refusal != 0 {
+        return used;
     }
-    block
+    copy_at(part(&out, 0, h.length), nibbles, 0);
+    h.length
 }
 
 fn copy_block(nibbles: &mut [u8], from: usize, to: usize)
     requires { ⌜ (from < 65536) × (to < 65536) ⌝ }
 {
-    let block = block_of(nibbles, 416 * from);
-    lists::copy_at(&block, nibbles, 416 * to);
+    let mut block = [0u8; 416];
+    copy_at(part(nibbles, 416 * from, 416), &mut block, 0);
+    copy_at(&block, nibbles, 416 * to);
 }
 
-fn show(disk: &[u8], nibbles: &[u8], image: &mut [u8], step: [u8; 5]) {
+// The steps that show an answer on the stream.
+fn show(disks: &[u8], nibbles: &[u8], step: [u8; 6]) {
     let command = step[0];
+    let edition = step[1];
     match command {
-        5 => show_image(disk, nibbles, image),
-        6 => show_sector(nibbles, step[1], step[2], step[3]),
-        7 => show_pair(nibbles, place(step[1], step[2], step[3])),
-        8 => show_prologue(nibbles),
+        9 => show_image(
+            disk_of(disks, edition),
+            nibbles,
+            edition,
+            number(step[2], step[3]),
+        ),
+        10 => show_sector(nibbles, edition, step[2], step[3], step[4]),
+        11 => show_pair(nibbles, edition, place(step[2], step[3], step[4])),
+        12 => show_prologue(nibbles),
         _ => print(b"no such step\n"),
     }
 }
 
-fn show_used(disk: &[u8], nibbles: &[u8], used: usize, image: &mut [u8], step: [u8; 5]) {
-    if used <= nibbles.len() {
-        show(disk, &nibbles[0..used], image, step);
-        return;
+// How many bytes of the stream are in use after a step.
+fn act(disks: &mut [u8], nibbles: &mut [u8], used: usize, step: [u8; 6]) -> usize {
+    match step[0] {
+        0..=2 | 0x15 => laying::change(disks, step),
+        3..=8 => {
+            return laying::lay(disks, nibbles, used, step);
+        },
+        0x12 => {
+            return write_stream(disk_of(disks, step[1]), nibbles, used);
+        },
+        0x16 => copy_block(nibbles, number(step[1], step[2]), number(step[3], step[4])),
+        _ => show(disks, part(nibbles, 0, used), step),
     }
-    show(disk, nibbles, image, step);
-}
-
-fn act(disk: &mut [u8], nibbles: &mut [u8], used: usize, image: &mut [u8], step: [u8; 5]) -> usize {
-    let command = step[0];
-    if command == 0 {
-        poke(disk, place(step[1], step[2], step[3]), step[4]);
-        return used;
-    }
-    if command == 1 {
-        return write_stream(disk, nibbles, used);
-    }
-    if command == 2 {
-        poke(nibbles, place(step[1], step[2], step[3]), step[4]);
-        return used;
-    }
-    if command == 3 {
-        return place(step[1], step[2], step[3]);
-    }
-    if command == 4 {
-        copy_block(nibbles, number(step[1], step[2]), number(step[3], step[4]));
-        return used;
-    }
-    show_used(disk, nibbles, used, image, step);
     used
 }
 
-fn digit(c: u8) -> u8
-    ensures { λ r. ⌜ r < 16 ⌝ }
-{
-    if c < 58 {
-        c % 48 % 16
-    } else {
-        (c % 16 + 9) % 16
-    }
-}
-
-fn hex(high: u8, low: u8) -> u8 {
-    16 * digit(high) + digit(low)
-}
-
-fn step_of(line: &[u8; 15]) -> [u8; 5] {
-    [
-        hex(line[0], line[1]),
-        hex(line[3], line[4]),
-        hex(line[6], line[7]),
-        hex(line[9], line[10]),
-        hex(line[12], line[13]),
-    ]
-}
-
-fn run(disk: &mut [u8], nibbles: &mut [u8], image: &mut [u8]) {
-    let mut line = [0u8; 15];
+fn run(disks: &mut [u8], nibbles: &mut [u8]) {
     let mut used: usize = 0;
     let mut left: u32 = 100000;
     while left > 0 {
-        let n = io::read_full(STDIN_FILENO, &mut line);
-        if n < 15 {
+        let s = trial::next_step();
+        if !s.more {
             return;
         }
-        used = act(disk, nibbles, used, image, step_of(&line));
+        let step = s.bytes;
+        used = act(disks, nibbles, used, step);
         left -= 1;
     }
 }
 
+fn nibbles() -> [u8; 524288] {
+    [0; 524288]
+}
+
 fn main() {
-    let mut disk = [0u8; 143360];
-    let mut nibbles = [0u8; 233792];
-    let mut image = [0u8; 143360];
-    run(&mut disk, &mut nibbles, &mut image);
+    let mut disks = laying::disks();
+    let mut stream = nibbles();
+    run(&mut disks, &mut stream);
 }

@@ -203,3 +203,10 @@ pub fn handed_line(text: &[u8], h: Handed) {
     refusal_line(text, h.refusal);
     print_line(b"  length", h.length as u64);
 }
+
+// The first byte of what was handed over, and its sum.
+pub fn bytes_line(h: Handed, bytes: &[u8]) {
+    let written = part(bytes, 0, h.length);
+    print_number(b"  first byte", byte_at(written, 0) as u64);
+    print_line(b", sum", sum_of(written));
+}

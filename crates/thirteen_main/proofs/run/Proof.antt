@@ -5,10 +5,10 @@ use Rattle.thirteen_main.proofs.run.Statement.{statement}
 use Rattle.thirteen_main.proofs.run.Tie as tie
 
 abbrev Inv-loop : tie.InvT-loop
-Inv-loop disks₀ nibbles₀ hand₀ line₀ used₀ left₀ disks nibbles hand line used left = (length disks ≡ length disks₀) × (length nibbles ≡ length nibbles₀) × (length hand ≡ length hand₀) × (length line ≡ 18)
+Inv-loop disks₀ hand₀ size₀ left₀ disks hand size left = (length disks ≡ length disks₀) × (length hand ≡ length hand₀)
 
 abbrev μ-loop : tie.MeasureT-loop
-μ-loop disks₀ nibbles₀ hand₀ line₀ used₀ left₀ disks nibbles hand line used left = left
+μ-loop disks₀ hand₀ size₀ left₀ disks hand size left = left
 
 pub run-spec : {M : Type 1} → statement M
 run-spec =
@@ -17,19 +17,15 @@ run-spec =
     Inv-loop
     μ-loop
     (λ c. search needs)  -- loop-holds
-    (λ c. search needs)  -- slice-aggregate-read-full
-    (λ c κs. search needs)  -- read-full-requires
+    (λ c κs. search needs)  -- next-step-requires
     (λ c. search needs)  -- same-length
     (λ c. search needs)  -- same-length-2
-    (λ c. search needs)  -- same-length-3
     (λ c. search needs)  -- returns
-    (λ c κs. search needs)  -- step-of-requires
     (λ c κs. search needs)  -- act-requires
     (λ c. search needs)  -- sub-left
     (λ c. search needs)  -- loop-less
     (λ c. search needs)  -- loop-again
+    (λ c. search needs)  -- same-length-3
     (λ c. search needs)  -- same-length-4
-    (λ c. search needs)  -- same-length-5
-    (λ c. search needs)  -- same-length-6
     (λ c. search needs)  -- returns-2
     )

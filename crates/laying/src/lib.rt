@@ -1,6 +1,17 @@
-// Streams of sectors in both editions. The 5-and-3 coding is written here alone, for these trials: byte by byte, as DOS 3.2 does it.
-use crate::per_of;
-use crate::poke;
+// Disks and streams of both editions, laid for trials by the steps of a script. KK is an edition, 0D or 10: 13 or 16 sectors a track. NNNN and AABBDD are numbers, the
+// high byte first; what is not named is 00:
+//     00 KK TT SS BB VV    put VV at byte BB of DOS sector SS of track TT of the disk
+//     01 KK TT SS VV       put VV, VV + 1, VV + 2 and so on at the bytes of the sector
+//     02 KK                a disk of zeros
+//     03                   an empty stream
+//     04 NN NN VV          NNNN bytes VV more in the stream, 4,095 at most
+//     05 KK VV TT SS       the sector with that address, 5 of FFh, and the data of the disk's sector more in the stream
+//     06 KK VV AA BB GG    so all sectors of the disk, numbers AA, AA + BB, AA + 2 BB and so on, GG of FFh before each
+//     07 AA BB DD VV       put VV at place AABBDD of the stream
+//     08 AA BB DD          the stream has AABBDD bytes
+//     15 KK AA BB          as step 01 at every sector of the disk, VV being AA k + BB for sector k
+// The 5-and-3 coding is written here alone: byte by byte, as DOS 3.2 does it. All is proved to end and never to trap, and no more than that.
+ghost use Prim.Native.Nat.{_<_, _≤_};
 use disk::Place;
 use disk::Sector;
 use disk::Track;
@@ -9,6 +20,86 @@ use lists::byte_at;
 use lists::copy_at;
 use lists::fill_at;
 use lists::part;
+use trial::number;
+use trial::place;
+use trial::poke;
+use trial::put_ramp;
+
+// The sectors of a track of an edition: 13, else 16.
+fn per_of(edition: u8) -> u8
+    ensures { λ r. ⌜ (0 < r) × (r ≤ 16) ⌝ }
+{
+    if edition == 13 {
+        return 13;
+    }
+    16
+}
+
+// The bytes of a disk.
+pub fn size_of(edition: u8) -> usize
+    ensures { λ r. ⌜ r ≤ 143360 ⌝ }
+{
+    8960 * (per_of(edition) as usize)
+}
+
+// Where a disk begins: that of 16 at 0, that of 13 behind it.
+fn start_of(edition: u8) -> usize
+    ensures { λ r. ⌜ r ≤ 143360 ⌝ }
+{
+    if edition == 13 {
+        return 143360;
+    }
+    0
+}
+
+// The disk of an edition.
+pub fn disk_of(disks: &[u8], edition: u8) -> &[u8] {
+    part(disks, start_of(edition), size_of(edition))
+}
+
+// A disk of zeros of each edition. What they hold is not promised, so that lending them costs no proof.
+pub fn disks() -> [u8; 259840] {
+    [0; 259840]
+}
+
+// Where a sector of a disk begins.
+fn sector_at(edition: u8, track: u8, sector: u8) -> usize
+    ensures { λ r. ⌜ r < 33554432 ⌝ }
+{
+    let p = Place {
+        track: Track(track),
+        sector: Sector(sector),
+    };
+    start_of(edition) + sector_start(per_of(edition), p)
+}
+
+// The sum of two bytes without its carry.
+fn summed(x: u8, y: u8) -> u8 {
+    ((x as u16 + y as u16) % 256) as u8
+}
+
+// Such a sector for each of the disk.
+fn fill_ramps(disks: &mut [u8], edition: u8, a: u8, b: u8) {
+    let start = start_of(edition);
+    let mut first = b;
+    for k in 0..35 * (per_of(edition) as u16) {
+        put_ramp(disks, start + 256 * (k as usize), first);
+        first = summed(first, a);
+    }
+}
+
+// The steps that change a disk: 00, 01, 02, 15.
+pub fn change(disks: &mut [u8], step: [u8; 6]) {
+    let command = step[0];
+    let edition = step[1];
+    let at = sector_at(edition, step[2], step[3]);
+    match command {
+        0 => poke(disks, at + number(0, step[4]), step[5]),
+        1 => put_ramp(disks, at, step[4]),
+        2 => fill_at(disks, start_of(edition), size_of(edition), 0),
+        _ => fill_ramps(disks, edition, step[2], step[3]),
+    }
+}
 
 // The bytes from ABh up, without D5h and those with two zero bits in a row.
 const WRITES: [u8; 32] = [
@@ -58,7 +149,7 @@ fn longer(nibbles: &[u8], used: usize, n: usize) -> usize {
 }
 
 // n bytes v more: the length afterwards.
-pub(crate) fn append_gap(nibbles: &mut [u8], used: usize, n: usize, v: u8) -> usize {
+fn append_gap(nibbles: &mut [u8], used: usize, n: usize, v: u8) -> usize {
     fill_at(nibbles, used, n, v);
     longer(nibbles, used, n)
 }
@@ -187,7 +278,7 @@ fn dos_sector(edition: u8, sector: u8) -> u8 {
 }
 
 // A sector with its address: the length afterwards. Where the disk has no such sector, no data are written.
-pub(crate) fn append_sector(
+fn append_sector(
     disk: &[u8],
     nibbles: &mut [u8],
     used: usize,
@@ -248,7 +339,7 @@ fn append_numbered(disk: &[u8], nibbles: &mut [u8], used: usize, step: [u8; 6], 
 }
 
 // All sectors of a disk, from number AA on, always BB further.
-pub(crate) fn append_all(disk: &[u8], nibbles: &mut [u8], used: usize, step: [u8; 6]) -> usize {
+fn append_all(disk: &[u8], nibbles: &mut [u8], used: usize, step: [u8; 6]) -> usize {
     let mut end = used;
     let mut k = further(step[1], 0, step[3]);
     for j in 0..35 * (per_of(step[1]) as u16) {
@@ -256,4 +347,29 @@ pub(crate) fn append_all(disk: &[u8], nibbles: &mut [u8], used: usize, step: [u8
         k = further(step[1], k, step[4]);
     }
     end
+}
+
+// The steps that lay a stream, 03 to 08: how many bytes it has afterwards.
+pub fn lay(disks: &[u8], nibbles: &mut [u8], used: usize, step: [u8; 6]) -> usize {
+    let command = step[0];
+    let edition = step[1];
+    match command {
+        3 => 0,
+        4 => append_gap(nibbles, used, place(0, step[1], step[2]), step[3]),
+        5 => append_sector(
+            disk_of(disks, edition),
+            nibbles,
+            used,
+            edition,
+            step[2],
+            step[3],
+            step[4],
+        ),
+        6 => append_all(disk_of(disks, edition), nibbles, used, step),
+        7 => {
+            poke(nibbles, place(step[1], step[2], step[3]), step[4]);
+            used
+        },
+        _ => place(step[1], step[2], step[3]),
+    }
 }

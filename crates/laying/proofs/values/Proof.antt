@@ -2,8 +2,8 @@ use Prim.Native.Nat.{_-_, _≤_}
 use lib.ListN.{length}
 use mathlib.Core.Path.{_≡_}
 use borrow.Author.Needs.{needs}
-use Rattle.thirteen_main.proofs.laying.values.Statement.{statement}
-use Rattle.thirteen_main.proofs.laying.values.Tie as tie
+use Rattle.laying.proofs.values.Statement.{statement}
+use Rattle.laying.proofs.values.Tie as tie
 
 abbrev Inv-loop : tie.InvT-loop
 Inv-loop «data» vals₀ i₀ vals i = (i ≤ 51) × (length vals ≡ 411)

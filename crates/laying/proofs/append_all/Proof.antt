@@ -2,11 +2,11 @@ use Prim.Native.Nat.{_-_, _≤_}
 use lib.ListN.{length}
 use mathlib.Core.Path.{_≡_}
 use borrow.Author.Needs.{needs}
-use Rattle.thirteen_main.proofs.laying.append_all.Statement.{statement}
-use Rattle.thirteen_main.proofs.laying.append_all.Tie as tie
+use Rattle.laying.proofs.append_all.Statement.{statement}
+use Rattle.laying.proofs.append_all.Tie as tie
 
 abbrev Inv-loop : tie.InvT-loop
-Inv-loop disk nibbles₀ used step end₀ k₀ j₀ j-end nibbles end k j = (length nibbles ≡ length nibbles₀) × (j ≤ 560)
+Inv-loop disk nibbles₀ used step end₀ k₀ j₀ j-end nibbles end k j = (j ≤ 560) × (length nibbles ≡ length nibbles₀)
 
 abbrev μ-loop : tie.MeasureT-loop
 μ-loop disk nibbles₀ used step end₀ k₀ j₀ j-end nibbles end k j = 560 - j
