@@ -53,14 +53,14 @@ fn smoke_in_cpp() {
     builds_and_runs(&cxx, "-std=c++11", "smoke_cpp");
 }
 
-// The header and the Rust declarations have the same 25 names; smoke.c links them all, and so do the tests of the raw functions.
+// The header, the Rust declarations and the table of docs/HOST-API.md have the same 25 names; smoke.c links them all, and so do the tests of the raw functions.
 #[test]
 fn header_and_raw_have_the_same_functions() {
     let names = |text: &str, before: &str| -> Vec<String> {
         let mut v: Vec<String> = text
             .lines()
             .filter_map(|l| l.trim_start().strip_prefix(before))
-            .filter_map(|l| l.split('(').next())
+            .filter_map(|l| l.split(['(', '`']).next())
             .map(str::to_owned)
             .collect();
         v.sort();
@@ -70,4 +70,5 @@ fn header_and_raw_have_the_same_functions() {
     let raw = names(include_str!("../src/raw.rs"), "pub fn dos33_");
     assert_eq!(header.len(), 25);
     assert_eq!(header, raw);
+    assert_eq!(header, names(include_str!("../../docs/HOST-API.md"), "| `dos33_"));
 }

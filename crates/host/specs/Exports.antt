@@ -1,4 +1,4 @@
--- What the functions exported to a host promise: HOST-API.md. The number is the result; under a refusal nothing lent changes, the number behind `length` among it.
+-- What the functions exported to a host promise: docs/HOST-API.md. The number is the result; under a refusal nothing lent changes, the number behind `length` among it.
 use mathlib.Core.Path.{_≡_}
 use mathlib.Core.Bool.{Bool, cond, not}
 use mathlib.Core.List.{List, [], _∷_}

@@ -1,4 +1,4 @@
-// The functions exported to a host: HOST-API.md. Each calls the library function of the same job, and tells its answer.
+// The functions exported to a host: docs/HOST-API.md. Each calls the library function of the same job, and tells its answer.
 ghost use mathlib.Core.Path.{_≡_};
 ghost use Rattle.outcome.specs.Outcome.{number};
 ghost use mathlib.Core.Bool.{cond};
