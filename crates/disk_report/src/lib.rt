@@ -1,4 +1,4 @@
-// What is said of a flat disk: its files and the links to them, its survey, and its map.
+// What is said of a flat disk: its files with the links to them, and its survey.
 use file_walk::follow_files;
 use file_walk::refuse;
 use libc::STDOUT_FILENO;
@@ -100,14 +100,5 @@ pub fn survey(disk: &[u8]) -> u8 {
     survey_line(b"\n  percent used  ", s.percent_used as u64);
     survey_line(b"\n  archive blocks", s.archive_blocks);
     survey_line(b"\n  links followed", s.links);
-    finish(b"\n")
-}
-
-pub fn draw_map(disk: &[u8]) -> u8 {
-    let s = files::survey(disk);
-    if s.refusal != 0 {
-        return refuse(disk, s.refusal);
-    }
-    picture::draw(disk);
     finish(b"\n")
 }

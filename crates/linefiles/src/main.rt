@@ -71,6 +71,15 @@ fn refuse_overlong(blocks: u64) -> u8 {
     REFUSED
 }
 
+fn draw_map(disk: &[u8]) -> u8 {
+    let s = files::survey(disk);
+    if s.refusal != 0 {
+        return refuse(disk, s.refusal);
+    }
+    picture::draw(disk);
+    finish(b"\n")
+}
+
 fn refuse_name(shown: &[u8]) -> u8 {
     refusal(STDERR_FILENO, NOT_ON_ROLL);
     tell(b", no file is named ");
@@ -79,15 +88,16 @@ fn refuse_name(shown: &[u8]) -> u8 {
     REFUSED
 }
 
-fn get(disk: &[u8], first: usize, force: bool) -> u8 {
+fn get(disk: &[u8], first: usize) -> u8 {
     let mut shown = io::buffer();
     let n = word(first, 2, &mut shown);
     let mut wanted = [0u8; 31];
-    let k = unescape(lists::part(&shown, 0, n), &mut wanted);
+    let name = lists::part(&shown, 0, n);
+    let k = unescape(name, &mut wanted);
     let mut out = file_space();
     let h = files::fetch(disk, lists::part(&wanted, 0, k), &mut out);
     if h.refusal == NOT_ON_ROLL {
-        return refuse_name(lists::part(&shown, 0, n));
+        return refuse_name(name);
     }
     if h.refusal != 0 {
         return refuse(disk, h.refusal);
@@ -95,17 +105,17 @@ fn get(disk: &[u8], first: usize, force: bool) -> u8 {
     if h.length == 0 {
         say(b"this file hands over no bytes; only those of type B do\n");
     }
-    save_word(first, 3, lists::part(&out, 0, h.length), force)
+    save_word(first, 3, lists::part(&out, 0, h.length))
 }
 
 // Saves to the file that word k names.
-fn save_word(first: usize, k: usize, bytes: &[u8], force: bool) -> u8 {
+fn save_word(first: usize, k: usize, bytes: &[u8]) -> u8 {
     let mut out = io::buffer();
     let n = word(first, k, &mut out);
-    write_file(lists::part(&out, 0, n), bytes, force)
+    write_file(lists::part(&out, 0, n), bytes, has_option(first, FORCE))
 }
 
-fn write_archive(disk: &[u8], first: usize, force: bool) -> u8 {
+fn write_archive(disk: &[u8], first: usize) -> u8 {
     let mut out = space();
     let h = writer::write_archive(disk, &mut out);
     if h.refusal == OVERLONG {
@@ -114,7 +124,7 @@ fn write_archive(disk: &[u8], first: usize, force: bool) -> u8 {
     if h.refusal != 0 {
         return refuse(disk, h.refusal);
     }
-    save_word(first, 2, lists::part(&out, 0, h.length), force)
+    save_word(first, 2, lists::part(&out, 0, h.length))
 }
 
 fn refuse_archive(disk: &[u8], archive: &[u8]) -> u8 {
@@ -150,7 +160,7 @@ fn check(disk: &[u8], first: usize) -> u8 {
     check_bytes(disk, lists::part(&archive, 0, l.length))
 }
 
-fn nibblize(disk: &[u8], first: usize, force: bool) -> u8 {
+fn nibblize(disk: &[u8], first: usize) -> u8 {
     let mut out = stream_space();
     let h = stream::nibblize(disk, &mut out);
     if h.refusal != 0 {
@@ -158,25 +168,25 @@ fn nibblize(disk: &[u8], first: usize, force: bool) -> u8 {
         tell(b", streams of 13 sectors a track are read, not written\n");
         return REFUSED;
     }
-    save_word(first, 2, lists::part(&out, 0, h.length), force)
+    save_word(first, 2, lists::part(&out, 0, h.length))
 }
 
 // A command on a flat disk.
-fn on_flat(command: u8, disk: &[u8], first: usize, force: bool) -> u8 {
+fn on_flat(command: u8, disk: &[u8], first: usize) -> u8 {
     match command {
         LIST => disk_report::list(disk, has_option(first, RAW)),
         SURVEY => disk_report::survey(disk),
-        MAP => disk_report::draw_map(disk),
-        GET => get(disk, first, force),
-        ARCHIVE => write_archive(disk, first, force),
+        MAP => draw_map(disk),
+        GET => get(disk, first),
+        ARCHIVE => write_archive(disk, first),
         CHECK => check(disk, first),
-        NIBBLIZE => nibblize(disk, first, force),
-        _ => save_word(first, 2, disk, force),
+        NIBBLIZE => nibblize(disk, first),
+        _ => save_word(first, 2, disk),
     }
 }
 
 // A command on a nibble stream: it is denibblized first.
-fn on_stream(command: u8, bytes: &[u8], per: u8, guessed: bool, first: usize, force: bool) -> u8 {
+fn on_stream(command: u8, bytes: &[u8], per: u8, guessed: bool, first: usize) -> u8 {
     let mut image = disk_space();
     let h = stream_report::denibblize_by(bytes, per, &mut image);
     if h.refusal != 0 {
@@ -185,18 +195,18 @@ fn on_stream(command: u8, bytes: &[u8], per: u8, guessed: bool, first: usize, fo
     if guessed {
         stream_report::say_other(bytes, per);
     }
-    on_flat(command, lists::part(&image, 0, h.length), first, force)
+    on_flat(command, lists::part(&image, 0, h.length), first)
 }
 
 // A file that is taken as a nibble stream. The first line says so.
-fn as_stream(command: u8, from: &[u8], bytes: &[u8], first: usize, force: bool) -> u8 {
+fn as_stream(command: u8, from: &[u8], bytes: &[u8], first: usize) -> u8 {
     let told = said(first);
     let mark = stream::recognize_prologue(bytes);
     let per = stream_report::taken_by(told, mark);
     input(from, b"taken as a nibble stream", bytes.len() as u64);
     stream_report::say_sectors(per);
     stream_report::say_reason(per, told == 0, mark);
-    on_stream(command, bytes, per, told == 0, first, force)
+    on_stream(command, bytes, per, told == 0, first)
 }
 
 fn is_flat(bytes: &[u8]) -> bool {
@@ -204,9 +214,9 @@ fn is_flat(bytes: &[u8]) -> bool {
 }
 
 // A command on a disk: flat, or by its length a nibble stream. The first line says which.
-fn on_disk(command: u8, from: &[u8], bytes: &[u8], first: usize, force: bool) -> u8 {
+fn on_disk(command: u8, from: &[u8], bytes: &[u8], first: usize) -> u8 {
     if (command == DENIBBLIZE) | !is_flat(bytes) {
-        return as_stream(command, from, bytes, first, force);
+        return as_stream(command, from, bytes, first);
     }
     if said(first) != 0 {
         tell(b"linefiles: --13 and --16 are for nibble streams; ");
@@ -217,33 +227,24 @@ fn on_disk(command: u8, from: &[u8], bytes: &[u8], first: usize, force: bool) ->
     input(from, b"flat disk", bytes.len() as u64);
     stream_report::say_sectors(disk::sectors_of(bytes));
     say(b"\n");
-    on_flat(command, bytes, first, force)
+    on_flat(command, bytes, first)
 }
 
 // Reads the file that the command is about, and goes on with its bytes.
 fn act(command: u8, first: usize) -> u8 {
-    let force = has_option(first, FORCE);
     let mut from = io::buffer();
     let n = word(first, 1, &mut from);
-    let mut bytes = space();
-    let l = read_file(lists::part(&from, 0, n), &mut bytes);
+    let path = lists::part(&from, 0, n);
+    let mut space = space();
+    let l = read_file(path, &mut space);
     if !l.good {
         return TROUBLE;
     }
+    let bytes = lists::part(&space, 0, l.length);
     if command == SHOW {
-        return archive_report::show(
-            lists::part(&from, 0, n),
-            lists::part(&bytes, 0, l.length),
-            has_option(first, RAW),
-        );
+        return archive_report::show(path, bytes, has_option(first, RAW));
     }
-    on_disk(
-        command,
-        lists::part(&from, 0, n),
-        lists::part(&bytes, 0, l.length),
-        first,
-        force,
-    )
+    on_disk(command, path, bytes, first)
 }
 
 // Runs the command that stands among the arguments at `first`: the exit status.
@@ -254,9 +255,10 @@ fn run(first: usize) -> u8 {
     }
     let mut w = io::buffer();
     let n = word(first, 0, &mut w);
-    let command = command_of(lists::part(&w, 0, n));
+    let name = lists::part(&w, 0, n);
+    let command = command_of(name);
     if command == 0 {
-        return unknown_command(lists::part(&w, 0, n));
+        return unknown_command(name);
     }
     run_command(command, first)
 }
