@@ -1,0 +1,26 @@
+use Prim.Native.Nat.{_-_, _≤_}
+use borrow.Author.Needs.{needs}
+use Rattle.arguments.proofs.has_long.Statement.{statement}
+use Rattle.arguments.proofs.has_long.Tie as tie
+
+abbrev Inv-loop : tie.InvT-loop
+Inv-loop first i₀ i = i ≤ 16
+
+abbrev μ-loop : tie.MeasureT-loop
+μ-loop first i₀ i = 16 - i
+
+pub has-long-spec : {M : Type 1} → statement M
+has-long-spec =
+    tie.close
+    (tie.spec
+    Inv-loop
+    μ-loop
+    (λ c. search needs)  -- loop-holds
+    (λ c κs. search needs)  -- after-requires
+    (λ c κs. search needs)  -- is-long-requires
+    (λ c. search needs)  -- returns
+    (λ c. search needs)  -- add-i
+    (λ c. search needs)  -- loop-less
+    (λ c. search needs)  -- loop-again
+    (λ c. search needs)  -- returns-2
+    )

@@ -1,0 +1,28 @@
+use Prim.Native.Nat.{_-_, _≤_}
+use borrow.Author.Needs.{needs}
+use Rattle.arguments.proofs.word_place.Statement.{statement}
+use Rattle.arguments.proofs.word_place.Tie as tie
+
+abbrev Inv-loop : tie.InvT-loop
+Inv-loop first k left₀ i₀ left i = i ≤ 16
+
+abbrev μ-loop : tie.MeasureT-loop
+μ-loop first k left₀ i₀ left i = 16 - i
+
+pub word-place-spec : {M : Type 1} → statement M
+word-place-spec =
+    tie.close
+    (tie.spec
+    Inv-loop
+    μ-loop
+    (λ c. search needs)  -- loop-holds
+    (λ c κs. search needs)  -- after-requires
+    (λ c κs. search needs)  -- option-of-requires
+    (λ c. search needs)  -- returns
+    (λ c. search needs)  -- sub-left
+    (λ c. search needs)  -- add-i
+    (λ c. search needs)  -- loop-less
+    (λ c. search needs)  -- loop-again
+    (λ c κs. search needs)  -- after-requires-2
+    (λ c. search needs)  -- returns-2
+    )
