@@ -9,6 +9,7 @@ mod print;
 mod sums;
 mod walk;
 
+use fields::Edition;
 use file::load;
 use file::save;
 use help::print_help;
@@ -32,7 +33,6 @@ use print::place;
 use print::refusal;
 use print::right;
 use print::text;
-use stream::Edition;
 use sums::after;
 use sums::next;
 use walk::poke;
@@ -455,7 +455,7 @@ fn check(disk: &[u8], first: usize) -> u8 {
 
 fn nibblize(disk: &[u8], first: usize, force: bool) -> u8 {
     let mut out = [0u8; 232960];
-    let h = stream::nibblize(disk, &mut out);
+    let h = nibblize::nibblize(disk, &mut out);
     if h.refusal != 0 {
         refusal(STDERR_FILENO, h.refusal);
         tell(b", streams of 13 sectors a track are read, not written\n");
@@ -593,7 +593,7 @@ fn taken_by(told: u8, mark: u8) -> u8 {
 // A file that is taken as a nibble stream. The first line says so.
 fn as_stream(command: u8, from: &[u8], bytes: &[u8], first: usize, force: bool) -> u8 {
     let told = said(first);
-    let mark = stream::recognize_prologue(bytes);
+    let mark = fields::recognize_prologue(bytes);
     let per = taken_by(told, mark);
     say_input(from, b"taken as a nibble stream", bytes.len() as u64);
     say_sectors(per);

@@ -5,6 +5,12 @@ use crate::print::text;
 use crate::sums::after;
 use crate::sums::more;
 use crate::walk::poke;
+use fields::Edition;
+use fields::FieldPair;
+use fields::dos_sector;
+use fields::find_mark;
+use fields::parse_nib_sector;
+use fields::per_track;
 use libc::STDERR_FILENO;
 use lists::byte_at;
 use nibble::data_sum;
@@ -13,12 +19,6 @@ use outcome::ABSENT;
 use outcome::ADDRESS_SUM;
 use outcome::DATA_SUM;
 use outcome::STRANGER;
-use stream::Edition;
-use stream::FieldPair;
-use stream::dos_sector;
-use stream::find_mark;
-use stream::parse_nib_sector;
-use stream::per_track;
 
 // The last byte of an address mark.
 fn mark_of(ed: Edition) -> u8 {

@@ -66,7 +66,7 @@ fn same_line(disk: &[u8], image: &[u8]) {
 }
 
 fn write_stream(disk: &[u8], nibbles: &mut [u8], used: usize) -> usize {
-    let h = stream::nibblize(disk, nibbles);
+    let h = nibblize::nibblize(disk, nibbles);
     handed_line(b"nibblize: refusal", h);
     if h.refusal == 0 {
         return h.length;
@@ -90,7 +90,7 @@ fn show_sector(nibbles: &[u8], volume: u8, track: u8, sector: u8) {
 }
 
 fn show_pair(nibbles: &[u8], at: usize) {
-    let p = stream::parse_nib_sector(nibbles, at, stream::Edition::Sixteen);
+    let p = fields::parse_nib_sector(nibbles, at, fields::Edition::Sixteen);
     refusal_line(b"pair: refusal", p.refusal);
     print_number(b"  volume", p.volume as u64);
     print_number(b", track", p.track as u64);
@@ -100,7 +100,7 @@ fn show_pair(nibbles: &[u8], at: usize) {
 }
 
 fn show_prologue(nibbles: &[u8]) {
-    print_line(b"prologue", stream::recognize_prologue(nibbles) as u64);
+    print_line(b"prologue", fields::recognize_prologue(nibbles) as u64);
 }
 
 fn wide(x: u8) -> usize

@@ -2,11 +2,11 @@
 use crate::size_of;
 use disk::Sector;
 use disk::Track;
+use fields::Edition;
 use files::PAIR_BYTES;
 use libc::STDOUT_FILENO;
 use outcome::Handed;
 use outcome::Word;
-use stream::Edition;
 
 fn print(text: &[u8]) {
     io::write_all(STDOUT_FILENO, text);
@@ -140,7 +140,7 @@ fn edition_of(edition: u8) -> Edition {
 }
 
 pub(crate) fn pair(nibbles: &[u8], edition: u8, at: usize) {
-    let p = stream::parse_nib_sector(nibbles, at, edition_of(edition));
+    let p = fields::parse_nib_sector(nibbles, at, edition_of(edition));
     print_number(b"pair", edition as u64);
     refusal_line(b": refusal", p.refusal);
     print_number(b"  volume", p.volume as u64);
@@ -151,7 +151,7 @@ pub(crate) fn pair(nibbles: &[u8], edition: u8, at: usize) {
 }
 
 pub(crate) fn prologue(nibbles: &[u8]) {
-    print_line(b"prologue", stream::recognize_prologue(nibbles) as u64);
+    print_line(b"prologue", fields::recognize_prologue(nibbles) as u64);
 }
 
 fn map_line(free: u32, used: u32, percent: u32) {
@@ -216,7 +216,7 @@ pub(crate) fn files(disk: &[u8]) {
 
 pub(crate) fn nibblized(disk: &[u8]) {
     let mut out = [0x55u8; 232960];
-    let h = stream::nibblize(disk, &mut out);
+    let h = nibblize::nibblize(disk, &mut out);
     handed_line(b"nibblize: refusal", h);
     if untouched(&out) {
         print(b"  nothing changed\n");
