@@ -14,7 +14,7 @@ use Rattle.outcome.proofs.Outcome.{handed-fits, hands-given, hands-left}
 use Rattle.files.specs.Contents.{Contents, Proper}
 use Rattle.files.proofs.Proper.{all-proper}
 use Rattle.disk.specs.Disk.{perOf}
-use Rattle.stream.specs.declared.Edition.{Edition}
+use Rattle.fields.specs.declared.Edition.{Edition}
 use Rattle.stream.specs.Stream.{image}
 use Rattle.stream.proofs.Sizes.{sized-image}
 use Rattle.files.specs.Survey.{blocks}

@@ -14,7 +14,7 @@ use Rattle.disk.specs.Window.{sectorIn}
 use Rattle.catalog.specs.Catalog.{shown, trimmed}
 use Rattle.files.specs.Contents.{File, bytesIn}
 use Rattle.nibble.proofs.Starred
-use Rattle.stream.specs.Editions.{interleave}
+use Rattle.fields.specs.Editions.{interleave}
 use Rattle.files.specs.Survey.{blocks, blocksIn}
 use Rattle.archive.specs.Archive.{archive, firstBlock, entryChain}
 use Rattle.agreement.specs.Starred.{Starred as Cases}

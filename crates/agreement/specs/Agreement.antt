@@ -13,7 +13,7 @@ use Rattle.files.specs.Contents.{Contents, contents}
 use Rattle.files.specs.Survey.{blocks}
 use Rattle.archive.specs.Archive.{Wrote, Checked}
 use Rattle.disk.specs.Disk.{perOf}
-use Rattle.stream.specs.declared.Edition.{Edition}
+use Rattle.fields.specs.declared.Edition.{Edition}
 use Rattle.stream.specs.Stream.{image, Denibblized}
 
 -- A disk as it arrives: flat, of either size, or as nibbles of an edition. A stream that unrolls by both codings stands for two disks, one for each edition.

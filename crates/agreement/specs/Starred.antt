@@ -12,7 +12,7 @@ use Rattle.disk.specs.Window.{sectorIn}
 use Rattle.catalog.specs.Catalog.{shown}
 use Rattle.files.specs.Contents.{File, bytesIn}
 use Rattle.nibble.specs.Nibble.{of44, encode}
-use Rattle.stream.specs.Editions.{interleave}
+use Rattle.fields.specs.Editions.{interleave}
 use Rattle.files.specs.Survey.{blocks}
 use Rattle.archive.specs.Archive.{archive}
 

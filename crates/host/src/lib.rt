@@ -11,8 +11,9 @@ ghost use Rattle.files.specs.Survey.{fetched};
 ghost use Rattle.pairs.specs.Run.{pairRun};
 ghost use Rattle.files.specs.Chosen.{fileOfNumber, listsOfNumber};
 ghost use Rattle.nibble.specs.Nibble.{encoded};
-ghost use Rattle.stream.specs.declared.Edition.the-variants.{Sixteen, Thirteen};
-ghost use Rattle.stream.specs.Stream.{image, sectorOf, nibblized};
+ghost use Rattle.fields.specs.declared.Edition.the-variants.{Sixteen, Thirteen};
+ghost use Rattle.stream.specs.Stream.{image, sectorOf};
+ghost use Rattle.nibblize.specs.Nibblize.{nibblized};
 ghost use Rattle.archive.specs.Archive.{archiveOf, check};
 ghost use Prim.Native.Nat.{_≤_};
 ghost use lib.ListN.{length, drop};
@@ -20,7 +21,7 @@ ghost use lib.Dec.{ltb};
 ghost use mathlib.Core.List.{_++_, _∷_, []};
 ghost use Rattle.outcome.specs.Outcome.{given};
 ghost use Rattle.records.specs.Records.{entryWritten, pageWritten, fileWritten};
-ghost use Rattle.stream.specs.Search.{recognized};
+ghost use Rattle.fields.specs.Search.{recognized};
 ghost use Rattle.reader.specs.Steps.{entryStep};
 ghost use Rattle.host.specs.Exports.{Exports, Fields, Told, yes, vtocNumbers, surveyNumbers, openNumbers, entryFields, entryNumbers, formatNumbers};
 use disk::Place;
@@ -189,7 +190,7 @@ pub extern "C" fn dos33_denibblize_13(stream: &[u8], out: &mut [u8], length: &mu
 pub extern "C" fn dos33_nibblize(disk: &[u8], out: &mut [u8], length: &mut u64) -> u8
     ensures { λ r. ⌜ Exports (nibblized (now (disk .entry))) (now (out .entry)) (now (out .exit)) (now (length .entry)) (now (length .exit)) r ⌝ }
 {
-    let answer = stream::nibblize(disk, out);
+    let answer = nibblize::nibblize(disk, out);
     tell(answer, length)
 }
 
@@ -250,7 +251,7 @@ pub extern "C" fn dos33_binary_file(
 pub extern "C" fn dos33_recognize_prologue(stream: &[u8]) -> u8
     ensures { λ r. ⌜ r ≡ recognized (now (stream .entry)) ⌝ }
 {
-    stream::recognize_prologue(stream)
+    fields::recognize_prologue(stream)
 }
 
 // A sector of the disk if flat, else of the image. 1, 3, 12.

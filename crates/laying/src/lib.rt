@@ -274,7 +274,7 @@ fn dos_sector(edition: u8, sector: u8) -> u8 {
     if edition == 13 {
         return sector;
     }
-    stream::dos_sector(sector)
+    fields::dos_sector(sector)
 }
 
 // A sector with its address: the length afterwards. Where the disk has no such sector, no data are written.

@@ -162,7 +162,7 @@ fn check(disk: &[u8], first: usize) -> u8 {
 
 fn nibblize(disk: &[u8], first: usize) -> u8 {
     let mut out = stream_space();
-    let h = stream::nibblize(disk, &mut out);
+    let h = nibblize::nibblize(disk, &mut out);
     if h.refusal != 0 {
         refusal(STDERR_FILENO, h.refusal);
         tell(b", streams of 13 sectors a track are read, not written\n");
@@ -201,7 +201,7 @@ fn on_stream(command: u8, bytes: &[u8], per: u8, guessed: bool, first: usize) ->
 // A file that is taken as a nibble stream. The first line says so.
 fn as_stream(command: u8, from: &[u8], bytes: &[u8], first: usize) -> u8 {
     let told = said(first);
-    let mark = stream::recognize_prologue(bytes);
+    let mark = fields::recognize_prologue(bytes);
     let per = stream_report::taken_by(told, mark);
     input(from, b"taken as a nibble stream", bytes.len() as u64);
     stream_report::say_sectors(per);

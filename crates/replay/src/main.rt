@@ -228,7 +228,7 @@ fn show_format(input: &[u8]) {
 }
 
 fn show_prologue(input: &[u8]) {
-    print_line(b"prologue", stream::recognize_prologue(input) as u64);
+    print_line(b"prologue", fields::recognize_prologue(input) as u64);
 }
 
 // Bytes of the six digits.

@@ -10,11 +10,13 @@ use Rattle.lists.specs.Select.{all, any}
 use Rattle.lists.proofs.Split.{by-test, clash, and-assoc, and-true}
 use Rattle.outcome.specs.declared.Refusal.the-variants.{Absent}
 use Rattle.outcome.specs.Outcome.{Outcome, refused, given}
-use Rattle.stream.specs.declared.Edition.{Edition}
-use Rattle.stream.specs.Editions.{nibblesOf, interleave, dosSector, dataOf}
-use Rattle.stream.specs.Stream.{Field, sameKey, firsts, sumOk, sumsOk, bytesAt, ofKey}
-use Rattle.stream.specs.Steps.{fieldOf, sectorAt, firstPlace}
-use Rattle.stream.specs.declared.FieldPair.{FieldPair}
+use Rattle.fields.specs.declared.Edition.{Edition}
+use Rattle.fields.specs.declared.FieldPair.{FieldPair}
+use Rattle.fields.specs.Editions.{nibblesOf, dosSector, dataOf}
+use Rattle.fields.specs.Fields.{Field}
+use Rattle.fields.specs.Scan.{fieldOf}
+use Rattle.stream.specs.Stream.{sameKey, firsts, sumOk, sumsOk, bytesAt, ofKey}
+use Rattle.stream.specs.Steps.{sectorAt, firstPlace}
 
 -- ---- tests
 pub or-true : (a : Bool) → (a || true) ≡ true

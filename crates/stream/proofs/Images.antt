@@ -4,13 +4,13 @@ use mathlib.Core.Path.{_≡_, refl, sym, ap, _∙_}
 use mathlib.Core.Bool.{Bool, true, false, cond, not, _&&_, _||_}
 use mathlib.Core.Logic.{_⊎_, inl, inr, ⊎-elim}
 use mathlib.Core.List.{List, [], _∷_, _++_, flatten}
-use Prim.Native.Nat.{ℕ, zero, suc, _+_, _-_, _*_, _/_, _%_, _^_, _≤_, _<_}
+use Prim.Native.Nat.{ℕ, zero, suc, _+_, _-_, _*_, _/_, _%_, _≤_, _<_}
 use native.Mathlib.Omega.{arith}
 use mir.Syntax.{w64}
 use mir.Val.{Fits}
 use borrow.Author.Needs.{needs}
 use borrow.Author.Tests.{eq-eqb, ne-eqb, lt-ltb, le-ltb, eqb-true, ltb-false}
-use lib.Dec.{eqb, ltb, eqb→eq}
+use lib.Dec.{eqb, ltb}
 use lib.ListN.{length, getD, set, take, drop, replicate, length-set, length-replicate, getD-replicate}
 use lib.Seq.{getD-set-same, getD-set-other}
 use Rattle.lists.specs.Fill.{tab, below, cats, put}
@@ -19,25 +19,25 @@ use Rattle.lists.proofs.Blocks.{Blocks, blocks-none, blocks-step, blocks-done, 
 use Rattle.lists.proofs.Chunks.{chunk-cats}
 use Rattle.lists.proofs.Put.{put-is, put-front}
 use Rattle.lists.proofs.Split.{by-lt, by-test, both-true, clash}
-use Rattle.lists.proofs.Table.{test-at}
 use Rattle.outcome.specs.declared.Handed.{Handed}
 use Rattle.outcome.specs.declared.Refusal.the-variants.{AddressSum, DataSum, Absent, Stranger}
 use Rattle.outcome.specs.Outcome.{Outcome, refused, given, _>>=_, _>>_, require, each, number, refusedWith, acceptedWith, Hands}
 use Rattle.outcome.proofs.Outcome.{hands-number, hands-short, hands-over, number-0, number-then, each-refuses, each-on}
-use Rattle.stream.specs.declared.Edition.{Edition}
-use Rattle.stream.specs.Editions.{nibblesOf, perTrack, dosSector, sumOf, dataOf}
-use Rattle.stream.specs.Stream.{Field, fields, sameKey, firsts, sumsOk, isStranger, firstVolume, bytesAt, image}
-use Rattle.stream.specs.Scan.{pairFrom}
-use Rattle.stream.specs.Steps.{fieldsFrom, fieldOf, Run, sectorAt, firstPlace, strange, numberOf, sumCounts, heldAt, Complete, Within, Decides, Meets, Surveys}
+use Rattle.fields.specs.declared.Edition.{Edition}
+use Rattle.fields.specs.declared.FieldPair.{FieldPair}
+use Rattle.fields.specs.Editions.{nibblesOf, perTrack, dosSector, sumOf, dataOf}
+use Rattle.fields.specs.Fields.{Field, fields}
+use Rattle.fields.specs.Scan.{pairFrom, fieldsFrom, fieldOf, Run}
+use Rattle.fields.proofs.Numbers.{per-some, per-small, number-track, number-sector, number-whole, number-below, dos-lt, same-sector}
+use Rattle.fields.proofs.Fields.{pair-bad, pair-end, pair-more, pair-fits, pair-less, run-more, run-from, run-all, run-bad, from-start}
+use Rattle.stream.specs.Stream.{sameKey, firsts, sumsOk, isStranger, firstVolume, bytesAt, image}
+use Rattle.stream.specs.Steps.{sectorAt, firstPlace, strange, numberOf, sumCounts, heldAt, Complete, Within, Decides, Meets, Surveys}
 use Rattle.stream.specs.Steps
-use Rattle.stream.specs.declared.FieldPair.{FieldPair}
 use Rattle.stream.specs.declared.Places.{Places}
-use Rattle.stream.proofs.Fields.{pair-bad, pair-end, pair-more, pair-fits, pair-less, run-more, run-from, run-all, run-bad, from-start}
 use Rattle.stream.proofs.Firsts.{or-none, any-met, any-none, any-agree, any-place, bytesAt-is, sector-none, sector-some, first-turn, sums-turn}
 use Rattle.stream.proofs.Keyed.{place-within}
 use Rattle.stream.proofs.Sizes.{length-data}
-use Rattle.stream.proofs.Numbers.{per-some, per-small, number-track, number-sector, number-whole, number-below, dos-lt, same-sector}
-use Rattle.stream.proofs.Unrolls.{each-joins}
+use Rattle.stream.proofs.Joins.{each-joins}
 
 -- ---- address_refusal
 pub record Ahead (ed : Edition) (s : List ℕ) (i k : ℕ) : Type 0 where

@@ -21,17 +21,18 @@ use Rattle.outcome.specs.Outcome.{Outcome, refused, given, _>>_, require, refus
 use Rattle.outcome.proofs.Outcome.{hands-number, hands-short, hands-over}
 use Rattle.nibble.specs.Nibble.{decode}
 use Rattle.nibble.specs.FiveThree.{decode53}
-use Rattle.stream.specs.declared.Edition.{Edition}
-use Rattle.stream.specs.declared.Edition.the-variants.{Sixteen, Thirteen}
-use Rattle.stream.specs.Editions.{nibblesOf, sumOf, dataOf}
-use Rattle.stream.specs.Stream.{Field, sameKey, firsts, sumsOk, ofKey, sectorOf}
-use Rattle.stream.specs.Scan.{pairFrom}
-use Rattle.stream.specs.Steps.{fieldOf, Run, Repeats, Judges, sectorAt, firstPlace, keyed, verdict, Locates}
-use Rattle.stream.specs.declared.FieldPair.{FieldPair}
+use Rattle.fields.specs.declared.Edition.{Edition}
+use Rattle.fields.specs.declared.Edition.the-variants.{Sixteen, Thirteen}
+use Rattle.fields.specs.declared.FieldPair.{FieldPair}
+use Rattle.fields.specs.Editions.{nibblesOf, sumOf, dataOf}
+use Rattle.fields.specs.Fields.{Field}
+use Rattle.fields.specs.Scan.{pairFrom, fieldOf, Run}
+use Rattle.fields.proofs.Fields.{pair-bad, pair-end, pair-more, pair-fits, pair-less, run-more, run-all, run-bad, run-le}
+use Rattle.stream.specs.Stream.{sameKey, firsts, sumsOk, ofKey, sectorOf}
+use Rattle.stream.specs.Steps.{Repeats, Judges, sectorAt, firstPlace, keyed, verdict, Locates}
 use Rattle.stream.specs.declared.Located.{Located}
 use Rattle.stream.proofs.Sizes.{length-data}
 use Rattle.stream.proofs.Numbers.{part-fits}
-use Rattle.stream.proofs.Fields.{pair-bad, pair-end, pair-more, pair-fits, pair-less, run-more, run-all, run-bad, run-le}
 use Rattle.stream.proofs.Firsts.{or-true, or-false, ofKey-is, sector-none, sector-some, first-turn, sums-turn}
 
 -- ---- has_key

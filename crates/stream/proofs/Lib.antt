@@ -1,14 +1,6 @@
 pub mod Numbers
-pub mod Marks
-pub mod Scanning
 pub mod Sizes
-pub mod Unrolls
-pub mod Written
-pub mod Seeks
-pub mod Writing
-pub mod Scan
-pub mod Fields
+pub mod Joins
 pub mod Firsts
 pub mod Keyed
-pub mod Prologue
 pub mod Images

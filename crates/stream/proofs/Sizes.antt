@@ -17,10 +17,11 @@ use Rattle.nibble.specs.Nibble.{low, valuesOf, byteFrom, decode}
 use Rattle.nibble.specs.FiveThree.{lowOf, byteOf53, sourceOf, byteFrom53, valuesOf53, decode53}
 use Rattle.outcome.proofs.Outcome.{Gives, gives-then, gives-after, gives-bind}
 use Rattle.nibble.proofs.FiveThree.{bits-lt}
-use Rattle.stream.specs.declared.Edition.{Edition}
-use Rattle.stream.specs.declared.Edition.the-variants.{Sixteen, Thirteen}
-use Rattle.stream.specs.Editions.{perTrack, interleave, dosSector, dataOf}
-use Rattle.stream.specs.Stream.{Field, fields, isStranger, firstVolume, firsts, sumsOk, bytesAt, image}
+use Rattle.fields.specs.declared.Edition.{Edition}
+use Rattle.fields.specs.declared.Edition.the-variants.{Sixteen, Thirteen}
+use Rattle.fields.specs.Editions.{perTrack, dosSector, dataOf}
+use Rattle.fields.specs.Fields.{Field, fields}
+use Rattle.stream.specs.Stream.{isStranger, firstVolume, firsts, sumsOk, bytesAt, image}
 
 -- a sector's bytes, n of them
 abbrev pub Sized : ℕ → List ℕ → Type 0

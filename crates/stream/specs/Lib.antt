@@ -1,6 +1,2 @@
-pub mod Editions
 pub mod Stream
-pub mod Pieces
-pub mod Search
-pub mod Scan
 pub mod Steps

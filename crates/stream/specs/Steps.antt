@@ -1,7 +1,7 @@
--- What the steps of the scan, of a sector by its key and of denibblize promise each other. Document 01 has no part of it but the rules that they carry.
+-- What the steps of a sector by its key and of denibblize promise each other. Document 01 has no part of it but the rules that they carry.
 use mathlib.Core.Path.{_≡_}
 use mathlib.Core.Bool.{Bool, true, false, cond, not, _&&_, _||_}
-use mathlib.Core.List.{List, [], _∷_}
+use mathlib.Core.List.{List}
 use Prim.Native.Nat.{ℕ, _+_, _-_, _*_, _<_, _≤_}
 use lib.Dec.{ltb, eqb}
 use lib.ListN.{length, getD, take, drop}
@@ -10,18 +10,14 @@ use Rattle.lists.specs.Select.{any}
 use Rattle.outcome.specs.declared.Refusal.the-variants.{DataSum, Absent, Stranger}
 use Rattle.outcome.specs.Refusal.{code}
 use Rattle.outcome.specs.Outcome.{Outcome, refused, given, number}
-use Rattle.stream.specs.declared.Edition.{Edition}
-use Rattle.stream.specs.Editions.{nibblesOf, perTrack, dosSector, dataOf}
-use Rattle.stream.specs.Stream.{Field, fields, sameKey, sumOk, image}
-use Rattle.stream.specs.declared.FieldPair.{FieldPair}
+use Rattle.fields.specs.declared.Edition.{Edition}
+use Rattle.fields.specs.declared.FieldPair.{FieldPair}
+use Rattle.fields.specs.Editions.{nibblesOf, perTrack, dosSector, dataOf}
+use Rattle.fields.specs.Fields.{Field}
+use Rattle.fields.specs.Scan.{fieldsFrom, fieldOf, Run}
+use Rattle.stream.specs.Stream.{sameKey, sumOk, image}
 use Rattle.stream.specs.declared.Located.{Located}
 use Rattle.stream.specs.declared.Places.{Places}
-use Rattle.stream.specs.Scan.{markAt, pairFrom}
-
--- ---- recognize_prologue
--- the last byte of the prologue at place k; 0 where there is none
-unfoldable pub prologueAt : List ℕ → ℕ → ℕ
-prologueAt s k = cond (markAt 0x96 s k) 0x96 (cond (markAt 0xB5 s k) 0xB5 0)
 
 -- ---- small steps
 -- the place of the first nibbles that are wanted: `at`, or those of p if p is wanted
@@ -37,28 +33,14 @@ abbrev pub verdict : Bool → ℕ → Located
 verdict good at = cond good (cond (eqb at 0) (record { refusal = code Absent; nibbles = 0 }) (record { refusal = 0; nibbles = at })) (record { refusal = code DataSum; nibbles = 0 })
 
 module _ (ed : Edition) where
-  -- ---- the pairs of a stream
-  -- the fields from place i on
-  unfoldable pub fieldsFrom : List ℕ → ℕ → Outcome (List Field)
-  fieldsFrom s i = fields ed (length s) (drop i s)
-
-  -- the field of a pair
-  abbrev pub fieldOf : List ℕ → FieldPair → Field
-  fieldOf s p = record { volume = p .volume; track = p .track; sector = p .sector; nibbles = take (nibblesOf ed) (drop (p .nibbles) s) }
-
-  -- from place i on stand the pairs xs, and behind them is place e
-  abbrev pub Run : List ℕ → ℕ → ℕ → List Field → Type 0
-  Run s i e [] = i ≡ e
-  Run s i e (x ∷ xs) = (0 < pairFrom ed s i .next) × (fieldOf s (pairFrom ed s i) ≡ x) × Run s (pairFrom ed s i .next) e xs
-
   -- ---- a sector by its key
   -- r says whether a pair before place e has the key of p
   pub record Repeats (s : List ℕ) (e : ℕ) (p : FieldPair) (r : Bool) : Type 0 where
-    pub is : (xs : List Field) → Run s 0 e xs → r ≡ any (sameKey (fieldOf s p)) xs
+    pub is : (xs : List Field) → Run ed s 0 e xs → r ≡ any (sameKey (fieldOf ed s p)) xs
 
   -- r says whether the sums of the fields that count are right up to the pair p at place e, where `good` says so of those before it
   pub record Judges (s : List ℕ) (e : ℕ) (p : FieldPair) (good r : Bool) : Type 0 where
-    pub is : (xs : List Field) → Run s 0 e xs → r ≡ (good && (any (sameKey (fieldOf s p)) xs || sumOk ed (fieldOf s p .nibbles)))
+    pub is : (xs : List Field) → Run ed s 0 e xs → r ≡ (good && (any (sameKey (fieldOf ed s p)) xs || sumOk ed (fieldOf ed s p .nibbles)))
 
   -- the bytes of the nibbles at a place; 10 for no place
   unfoldable pub sectorAt : List ℕ → ℕ → Outcome (List ℕ)
@@ -100,8 +82,8 @@ module _ (ed : Edition) where
 
   -- the answer where a stranger is met and the scan would go on at place i
   pub data Meets (s : List ℕ) (i : ℕ) (r : Places) : Type 0 where
-    stranger : r .refusal ≡ code Stranger → number (fieldsFrom s i) ≡ 0 → Meets s i r
-    address : r .refusal ≡ number (fieldsFrom s i) → (r .refusal ≡ 0 → ⊥) → Meets s i r
+    stranger : r .refusal ≡ code Stranger → number (fieldsFrom ed s i) ≡ 0 → Meets s i r
+    address : r .refusal ≡ number (fieldsFrom ed s i) → (r .refusal ≡ 0 → ⊥) → Meets s i r
 
   -- each place has its nibbles in s
   pub record Within (s at : List ℕ) : Type 0 where

@@ -7,11 +7,11 @@
 //     12 KK                show what nibblize answers; if it is not refused, it is the stream
 //     16 NN NN JJ JJ       copy the 416 bytes of block NNNN of the stream over block JJJJ
 ghost use Prim.Native.Nat.{_<_};
+use fields::Edition;
 use laying::disk_of;
 use lists::copy_at;
 use lists::part;
 use outcome::Handed;
-use stream::Edition;
 use trial::bytes_line;
 use trial::handed_line;
 use trial::number;
@@ -85,7 +85,7 @@ fn edition_of(edition: u8) -> Edition {
 }
 
 fn show_pair(nibbles: &[u8], edition: u8, at: usize) {
-    let p = stream::parse_nib_sector(nibbles, at, edition_of(edition));
+    let p = fields::parse_nib_sector(nibbles, at, edition_of(edition));
     print_number(b"pair", edition as u64);
     refusal_line(b": refusal", p.refusal);
     print_number(b"  volume", p.volume as u64);
@@ -96,7 +96,7 @@ fn show_pair(nibbles: &[u8], edition: u8, at: usize) {
 }
 
 fn show_prologue(nibbles: &[u8]) {
-    print_line(b"prologue", stream::recognize_prologue(nibbles) as u64);
+    print_line(b"prologue", fields::recognize_prologue(nibbles) as u64);
 }
 
 // Space for a disk as nibbles, each byte 55h. What it holds is not promised, so that lending it costs no proof.
@@ -107,7 +107,7 @@ fn space() -> [u8; 232960] {
 // How many bytes the stream has afterwards.
 fn write_stream(disk: &[u8], nibbles: &mut [u8], used: usize) -> usize {
     let mut out = space();
-    let h = stream::nibblize(disk, &mut out);
+    let h = nibblize::nibblize(disk, &mut out);
     handed_line(b"nibblize: refusal", h);
     if untouched(&out) {
         print(b"  nothing changed\n");

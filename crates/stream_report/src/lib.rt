@@ -1,4 +1,10 @@
 // What is said of a nibble stream: what it is taken by, and the place where denibblize met a refusal. The library has judged the stream before.
+use fields::Edition;
+use fields::FieldPair;
+use fields::dos_sector;
+use fields::find_mark;
+use fields::parse_nib_sector;
+use fields::per_track;
 use libc::STDERR_FILENO;
 use libc::STDOUT_FILENO;
 use lists::byte_at;
@@ -20,12 +26,6 @@ use screen::sums::poke;
 use screen::tell;
 use screen::text;
 use screen::text_number;
-use stream::Edition;
-use stream::FieldPair;
-use stream::dos_sector;
-use stream::find_mark;
-use stream::parse_nib_sector;
-use stream::per_track;
 
 // The last byte of an address mark.
 fn mark_of(ed: Edition) -> u8 {

@@ -1,0 +1,4 @@
+pub mod Editions
+pub mod Search
+pub mod Fields
+pub mod Scan

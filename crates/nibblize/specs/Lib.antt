@@ -1,0 +1,2 @@
+pub mod Nibblize
+pub mod Pieces
