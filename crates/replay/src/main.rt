@@ -25,9 +25,16 @@ use lists::byte_at;
 use lists::part;
 use lists::word_at;
 use outcome::Handed;
-use trial::hex;
+use trial::lines::behind;
+use trial::lines::byte_of;
+use trial::lines::bytes_of;
+use trial::lines::count;
+use trial::lines::digits_of;
+use trial::lines::line_end;
+use trial::lines::line_from;
+use trial::lines::place_of;
+use trial::lines::put;
 use trial::number;
-use trial::poke;
 use trial::print;
 use trial::print_hex;
 use trial::print_line;
@@ -231,58 +238,6 @@ fn show_prologue(input: &[u8]) {
     print_line(b"prologue", fields::recognize_prologue(input) as u64);
 }
 
-// Bytes of the six digits.
-fn digits_of(line: &[u8]) -> [u8; 3] {
-    [
-        hex(byte_at(line, 2), byte_at(line, 3)),
-        hex(byte_at(line, 4), byte_at(line, 5)),
-        hex(byte_at(line, 6), byte_at(line, 7)),
-    ]
-}
-
-fn place_of(line: &[u8]) -> usize
-    ensures { λ r. ⌜ r < 16777216 ⌝ }
-{
-    let digits = digits_of(line);
-    trial::place(digits[0], digits[1], digits[2])
-}
-
-// How many bytes stand behind the six digits.
-fn count(line: &[u8]) -> usize {
-    if line.len() < 11 {
-        return 0;
-    }
-    (line.len() - 8) / 3
-}
-
-fn byte_of(line: &[u8], k: u8) -> u8 {
-    let at = 3 * number(0, k);
-    hex(byte_at(line, 9 + at), byte_at(line, 10 + at))
-}
-
-fn put_byte(bytes: &mut [u8], at: usize, line: &[u8], k: u8)
-    requires { ⌜ at < 16777216 ⌝ }
-{
-    if number(0, k) < count(line) {
-        poke(bytes, at + number(0, k), byte_of(line, k));
-    }
-}
-
-fn put(bytes: &mut [u8], at: usize, line: &[u8])
-    requires { ⌜ at < 16777216 ⌝ }
-{
-    for k in 0..64u8 {
-        put_byte(bytes, at, line, k);
-    }
-}
-
-// The bytes behind the six digits.
-fn bytes_of(line: &[u8]) -> [u8; 64] {
-    let mut bytes = [0u8; 64];
-    put(&mut bytes, 0, line);
-    bytes
-}
-
 fn show_words(line: &[u8], space: &mut [u8]) {
     let bytes = bytes_of(line);
     show_record(digits_of(line), part(&bytes, 0, count(line)), space);
@@ -331,32 +286,6 @@ fn act(line: &[u8], input: &mut [u8], used: usize, entries: &mut [u8], space: &m
         _ => show(line, part(input, 0, used), entries, space),
     }
     used
-}
-
-// The end of the line that starts at a place.
-fn line_end(script: &[u8], at: usize) -> usize {
-    let mut i: usize = at;
-    while i < script.len() {
-        if byte_at(script, i) == b'\n' {
-            return i;
-        }
-        i += 1;
-    }
-    script.len()
-}
-
-fn line_from(script: &[u8], at: usize, end: usize) -> &[u8] {
-    if at < end {
-        return part(script, at, end - at);
-    }
-    &script[0..0]
-}
-
-fn behind(script: &[u8], end: usize) -> usize {
-    if end < script.len() {
-        return end + 1;
-    }
-    script.len()
 }
 
 fn run(script: &[u8], input: &mut [u8], entries: &mut [u8], space: &mut [u8]) {

@@ -2,14 +2,14 @@ use Prim.Native.Nat.{_-_, _≤_}
 use lib.ListN.{length}
 use mathlib.Core.Path.{_≡_}
 use borrow.Author.Needs.{needs}
-use Rattle.replay.proofs.put.Statement.{statement}
-use Rattle.replay.proofs.put.Tie as tie
+use Rattle.trial.proofs.lines.put.Statement.{statement}
+use Rattle.trial.proofs.lines.put.Tie as tie
 
 abbrev Inv-loop : tie.InvT-loop
-Inv-loop bytes₀ at line k₀ bytes k = (k ≤ 64) × (length bytes ≡ length bytes₀)
+Inv-loop bytes₀ at line start k₀ bytes k = (k ≤ 64) × (length bytes ≡ length bytes₀)
 
 abbrev μ-loop : tie.MeasureT-loop
-μ-loop bytes₀ at line k₀ bytes k = 64 - k
+μ-loop bytes₀ at line start k₀ bytes k = 64 - k
 
 pub put-spec : {M : Type 1} → statement M
 put-spec =
