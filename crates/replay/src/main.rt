@@ -15,7 +15,6 @@
 //     B 000000         the file with type, address and length in the first five bytes (low bytes first), and behind them its data
 //     M 000000         the prologue recognized in the input
 //     O 000000         whether the input is a DOS 3.3 disk
-ghost use Prim.Native.Nat.{_<_};
 use disk::Place;
 use disk::Sector;
 use disk::Track;
@@ -24,125 +23,51 @@ use libc::STDIN_FILENO;
 use lists::byte_at;
 use lists::part;
 use lists::word_at;
-use outcome::Handed;
-use trial::lines::behind;
-use trial::lines::byte_of;
-use trial::lines::bytes_of;
-use trial::lines::count;
-use trial::lines::digits_of;
-use trial::lines::line_end;
-use trial::lines::line_from;
-use trial::lines::place_of;
-use trial::lines::put;
+use recorded::answer_line;
+use recorded::behind;
+use recorded::byte_of;
+use recorded::bytes_of;
+use recorded::content;
+use recorded::count;
+use recorded::digits_of;
+use recorded::entry_lines;
+use recorded::line_end;
+use recorded::line_from;
+use recorded::name_of;
+use recorded::place_of;
+use recorded::put;
 use trial::number;
 use trial::print;
+use trial::print_decimals;
 use trial::print_hex;
 use trial::print_line;
 use trial::print_number;
 use trial::put_ramp;
 
-fn byte_number(text: &[u8], b: u8) {
-    print_number(text, b as u64);
-}
-
-fn added(a: u32, b: u32) -> u32
-    ensures { λ r. ⌜ r < 65521 ⌝ }
-{
-    (a % 65521 + b % 65521) % 65521
-}
-
-fn joined(high: u32, low: u32) -> u64 {
-    65536 * (high as u64) + low as u64
-}
-
-// Adler's sum of 32 bits.
-fn adler(bytes: &[u8]) -> u64 {
-    let mut a: u32 = 1;
-    let mut b: u32 = 0;
-    let mut i: usize = 0;
-    while i < bytes.len() {
-        a = added(a, byte_at(bytes, i) as u32);
-        b = added(b, a);
-        i += 1;
+// The direction as the byte of the disk; 128 for what is none.
+fn direction_byte(n: i8) -> u8 {
+    match n {
+        1 => 1,
+        0 => 0,
+        -1 => 255,
+        _ => 128,
     }
-    joined(b, a)
-}
-
-// Up to 512 bytes themselves, and of more their sum.
-fn content(bytes: &[u8]) {
-    print_number(b", length", bytes.len() as u64);
-    if bytes.len() <= 512 {
-        print(b", bytes");
-        print_hex(bytes);
-        return;
-    }
-    print_number(b", sum", adler(bytes));
-}
-
-fn answer_line(h: Handed, space: &[u8]) {
-    byte_number(b"  number", h.refusal);
-    if h.refusal == 0 {
-        content(part(space, 0, h.length));
-    }
-    print(b"\n");
-}
-
-fn front(t: VolumeTableOfContents) {
-    byte_number(b"vtoc", t.track_number_of_first_catalog_sector);
-    byte_number(b"", t.sector_number_of_first_catalog_sector);
-    byte_number(b"", t.release_number_of_dos);
-    byte_number(b"", t.diskette_volume_number);
-    byte_number(b"", t.maximum_number_of_track_sector_pairs);
-    byte_number(b"", t.last_track_where_sectors_were_allocated);
-}
-
-fn print_direction(n: i8) {
-    if n == 1 {
-        print(b" 1");
-        return;
-    }
-    if n == -1 {
-        print(b" 255");
-        return;
-    }
-    if n == 0 {
-        print(b" 0");
-        return;
-    }
-    print(b" neither 1, -1 nor 0");
 }
 
 fn table_line(t: VolumeTableOfContents) {
-    front(t);
-    print_direction(t.direction_of_track_allocation);
-    byte_number(b"", t.number_of_tracks_per_diskette);
-    byte_number(b"", t.number_of_sectors_per_track);
+    print(b"vtoc");
+    print_decimals(&[
+        t.track_number_of_first_catalog_sector,
+        t.sector_number_of_first_catalog_sector,
+        t.release_number_of_dos,
+        t.diskette_volume_number,
+        t.maximum_number_of_track_sector_pairs,
+        t.last_track_where_sectors_were_allocated,
+        direction_byte(t.direction_of_track_allocation),
+        t.number_of_tracks_per_diskette,
+        t.number_of_sectors_per_track,
+    ]);
     print_line(b"", t.number_of_bytes_per_sector as u64);
-}
-
-// The name shown in an entry of 37 bytes.
-fn name_of(entry: &[u8]) -> &[u8] {
-    part(entry, 5, byte_at(entry, 4) as usize)
-}
-
-fn entry_line(entry: &[u8]) {
-    if entry.len() < 37 {
-        return;
-    }
-    byte_number(b"entry", byte_at(entry, 0));
-    byte_number(b"", byte_at(entry, 1));
-    byte_number(b" type", byte_at(entry, 2));
-    byte_number(b" locked", byte_at(entry, 3));
-    print_number(b" sectors", word_at(entry, 35) as u64);
-    print(b" name");
-    print_hex(name_of(entry));
-    print(b"\n");
-}
-
-fn entry_lines(entries: &[u8]) {
-    for i in 0..1000u16 {
-        entry_line(part(entries, 37 * i as usize, 37));
-    }
 }
 
 fn file_lines(disk: &[u8], entry: &[u8], space: &mut [u8]) {
@@ -186,7 +111,7 @@ fn show_sector(nibbles: &[u8], key: [u8; 3], space: &mut [u8]) {
 
 fn show_nibbles(sector: &[u8], space: &mut [u8]) {
     let h = nibble::encode_sector(sector, space);
-    byte_number(b"encoded: number", h.refusal);
+    print_number(b"encoded: number", h.refusal as u64);
     if h.refusal == 0 {
         content(part(space, 0, 342));
     }
@@ -226,7 +151,7 @@ fn show_binary(input: &[u8], space: &mut [u8]) {
 
 fn show_format(input: &[u8]) {
     let f = records::format_from_data(input);
-    byte_number(b"format: number", f.refusal);
+    print_number(b"format: number", f.refusal as u64);
     if f.dos33 {
         print(b", DOS 3.3\n");
         return;

@@ -1,7 +1,5 @@
 // What the trial programs share: the steps of a script, numbers made of bytes, pokes, and what is printed.
 // It is proved to end and never to trap, and beyond that only the ranges that the programs need.
-pub mod lines;
-
 ghost use Prim.Native.Nat.{_<_};
 use libc::STDIN_FILENO;
 use libc::STDOUT_FILENO;

@@ -1,7 +1,7 @@
 use Prim.Native.Nat.{_-_, _≤_}
 use borrow.Author.Needs.{needs}
-use Rattle.replay.proofs.entry_lines.Statement.{statement}
-use Rattle.replay.proofs.entry_lines.Tie as tie
+use Rattle.recorded.proofs.entry_lines.Statement.{statement}
+use Rattle.recorded.proofs.entry_lines.Tie as tie
 
 abbrev Inv-loop : tie.InvT-loop
 Inv-loop entries i₀ i = i ≤ 1000

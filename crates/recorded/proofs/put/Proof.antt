@@ -2,8 +2,8 @@ use Prim.Native.Nat.{_-_, _≤_}
 use lib.ListN.{length}
 use mathlib.Core.Path.{_≡_}
 use borrow.Author.Needs.{needs}
-use Rattle.trial.proofs.lines.put.Statement.{statement}
-use Rattle.trial.proofs.lines.put.Tie as tie
+use Rattle.recorded.proofs.put.Statement.{statement}
+use Rattle.recorded.proofs.put.Tie as tie
 
 abbrev Inv-loop : tie.InvT-loop
 Inv-loop bytes₀ at line start k₀ bytes k = (k ≤ 64) × (length bytes ≡ length bytes₀)

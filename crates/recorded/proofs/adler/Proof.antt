@@ -1,8 +1,8 @@
 use Prim.Native.Nat.{_-_, _≤_}
 use lib.ListN.{length}
 use borrow.Author.Needs.{needs}
-use Rattle.replay.proofs.adler.Statement.{statement}
-use Rattle.replay.proofs.adler.Tie as tie
+use Rattle.recorded.proofs.adler.Statement.{statement}
+use Rattle.recorded.proofs.adler.Tie as tie
 
 abbrev Inv-loop : tie.InvT-loop
 Inv-loop bytes a₀ b₀ i₀ a b i = i ≤ length bytes

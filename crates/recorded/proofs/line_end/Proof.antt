@@ -1,8 +1,8 @@
 use Prim.Native.Nat.{_-_}
 use lib.ListN.{length}
 use borrow.Author.Needs.{needs}
-use Rattle.trial.proofs.lines.line_end.Statement.{statement}
-use Rattle.trial.proofs.lines.line_end.Tie as tie
+use Rattle.recorded.proofs.line_end.Statement.{statement}
+use Rattle.recorded.proofs.line_end.Tie as tie
 
 abbrev Inv-loop : tie.InvT-loop
 Inv-loop script at i₀ i = Unit
