@@ -2,6 +2,7 @@
 // All is proved to end and never to trap, and no more than that.
 ghost use Prim.Native.Nat.{_<_};
 use lists::byte_at;
+use lists::fill_at;
 use lists::part;
 use lists::word_at;
 use outcome::Handed;
@@ -13,6 +14,7 @@ use trial::print;
 use trial::print_decimals;
 use trial::print_hex;
 use trial::print_number;
+use trial::put_ramp;
 
 // Bytes of the six digits.
 pub fn digits_of(line: &[u8]) -> [u8; 3] {
@@ -40,7 +42,7 @@ pub fn count(line: &[u8]) -> usize {
 }
 
 // Byte k of them.
-pub fn byte_of(line: &[u8], k: u8) -> u8 {
+fn byte_of(line: &[u8], k: u8) -> u8 {
     let at = 3 * number(0, k);
     hex(byte_at(line, 9 + at), byte_at(line, 10 + at))
 }
@@ -55,7 +57,7 @@ fn put_byte(bytes: &mut [u8], at: usize, line: &[u8], k: u8)
 }
 
 // Puts these bytes, 64 at most, at a place below 16 Mi.
-pub fn put(bytes: &mut [u8], at: usize, line: &[u8]) {
+fn put(bytes: &mut [u8], at: usize, line: &[u8]) {
     let start = at % 16777216;
     for k in 0..64u8 {
         put_byte(bytes, start, line, k);
@@ -67,6 +69,42 @@ pub fn bytes_of(line: &[u8]) -> [u8; 64] {
     let mut bytes = [0u8; 64];
     put(&mut bytes, 0, line);
     bytes
+}
+
+// The step asks, and lays nothing.
+pub fn asks(line: &[u8]) -> bool {
+    let command = byte_at(line, 0);
+    match command {
+        b'N' | b'P' | b'F' | b'U' | b'=' | b'#' | 0 => false,
+        _ => true,
+    }
+}
+
+fn fill(input: &mut [u8], line: &[u8]) {
+    let n = number(byte_of(line, 0), byte_of(line, 1));
+    fill_at(input, place_of(line), n, byte_of(line, 2));
+}
+
+fn title(line: &[u8]) {
+    print(line);
+    print(b"\n");
+}
+
+// The steps that lay the input, and the titles: how many bytes are in use afterwards, `used` being those before.
+pub fn lay(line: &[u8], input: &mut [u8], used: usize) -> usize {
+    let command = byte_at(line, 0);
+    match command {
+        b'N' => {
+            fill_at(input, 0, place_of(line), byte_of(line, 0));
+            return place_of(line);
+        },
+        b'P' => put(input, place_of(line), line),
+        b'F' => fill(input, line),
+        b'U' => put_ramp(input, place_of(line), byte_of(line, 0)),
+        b'=' => title(line),
+        _ => {},
+    }
+    used
 }
 
 // The end of the line that starts at a place.

@@ -24,25 +24,24 @@ use lists::byte_at;
 use lists::part;
 use lists::word_at;
 use recorded::answer_line;
+use recorded::asks;
 use recorded::behind;
-use recorded::byte_of;
 use recorded::bytes_of;
 use recorded::content;
 use recorded::count;
 use recorded::digits_of;
 use recorded::entry_lines;
+use recorded::lay;
 use recorded::line_end;
 use recorded::line_from;
 use recorded::name_of;
 use recorded::place_of;
-use recorded::put;
 use trial::number;
 use trial::print;
 use trial::print_decimals;
 use trial::print_hex;
 use trial::print_line;
 use trial::print_number;
-use trial::put_ramp;
 
 // The direction as the byte of the disk; 128 for what is none.
 fn direction_byte(n: i8) -> u8 {
@@ -184,33 +183,13 @@ fn show(line: &[u8], input: &[u8], entries: &mut [u8], space: &mut [u8]) {
     }
 }
 
-fn print_title(line: &[u8]) {
-    print(line);
-    print(b"\n");
-}
-
-fn fill(input: &mut [u8], line: &[u8]) {
-    let n = number(byte_of(line, 0), byte_of(line, 1));
-    lists::fill_at(input, place_of(line), n, byte_of(line, 2));
-}
-
 // How many bytes are in use after a step, `used` being those before it.
 fn act(line: &[u8], input: &mut [u8], used: usize, entries: &mut [u8], space: &mut [u8]) -> usize {
-    let command = byte_at(line, 0);
-    match command {
-        b'N' => {
-            lists::fill_at(input, 0, place_of(line), byte_of(line, 0));
-            return place_of(line);
-        },
-        b'P' => put(input, place_of(line), line),
-        b'F' => fill(input, line),
-        b'U' => put_ramp(input, place_of(line), byte_of(line, 0)),
-        b'=' => print_title(line),
-        b'#' => {},
-        0 => {},
-        _ => show(line, part(input, 0, used), entries, space),
+    if asks(line) {
+        show(line, part(input, 0, used), entries, space);
+        return used;
     }
-    used
+    lay(line, input, used)
 }
 
 fn run(script: &[u8], input: &mut [u8], entries: &mut [u8], space: &mut [u8]) {
