@@ -55,17 +55,19 @@ fn direction_byte(n: i8) -> u8 {
 
 fn table_line(t: VolumeTableOfContents) {
     print(b"vtoc");
-    print_decimals(&[
-        t.track_number_of_first_catalog_sector,
-        t.sector_number_of_first_catalog_sector,
-        t.release_number_of_dos,
-        t.diskette_volume_number,
-        t.maximum_number_of_track_sector_pairs,
-        t.last_track_where_sectors_were_allocated,
-        direction_byte(t.direction_of_track_allocation),
-        t.number_of_tracks_per_diskette,
-        t.number_of_sectors_per_track,
-    ]);
+    print_decimals(
+        &[
+            t.track_number_of_first_catalog_sector,
+            t.sector_number_of_first_catalog_sector,
+            t.release_number_of_dos,
+            t.diskette_volume_number,
+            t.maximum_number_of_track_sector_pairs,
+            t.last_track_where_sectors_were_allocated,
+            direction_byte(t.direction_of_track_allocation),
+            t.number_of_tracks_per_diskette,
+            t.number_of_sectors_per_track,
+        ],
+    );
     print_line(b"", t.number_of_bytes_per_sector as u64);
 }
 
