@@ -5,7 +5,7 @@
 #     refused: NAME             the function NAME is not proved, and not merely because it calls one that is not
 #     refused: proofs/X.antt    a statement of that file is refused, and not merely because it cites one that is
 # Usage: test/refused.sh [CRATE..]            looks at the logs in target/must-fail, of all crates or of these
-#        test/refused.sh --alone [CRATE..]    tries each wrong version by itself first, in a copy; for all crates that takes most of an hour on two cores
+#        test/refused.sh --alone [CRATE..]    tries each wrong version by itself first, in a copy; for all crates that takes about half an hour on two cores
 set -u
 cd "$(dirname "$0")/.." || exit 2
 alone=0

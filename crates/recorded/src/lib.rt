@@ -1,4 +1,11 @@
-// The form of a recorded script and of its answers. A line is a letter, six hexadecimal digits, and bytes in hexadecimal; crates/replay/src/main.rt says what each asks.
+// The form of a recorded script and of its answers. A line is a letter, six hexadecimal digits and bytes in hexadecimal; a number or place PPPPPP has its high digits
+// first. There is one input, of which a front is in use. What a step asks is said by the program that answers it; the other steps are:
+//     = title              printed as it is
+//     # comment            passed over, as is an empty line
+//     N NNNNNN VV          NNNNNN bytes are in use, each of them VV
+//     P PPPPPP VV..        put these bytes, 64 at most, at place PPPPPP
+//     F PPPPPP NN NN VV    put NNNN times VV, high byte first, at place PPPPPP
+//     U PPPPPP VV          put VV, VV + 1, VV + 2 and so on at 256 bytes from place PPPPPP on
 // All is proved to end and never to trap, and no more than that.
 ghost use Prim.Native.Nat.{_<_};
 use lists::byte_at;

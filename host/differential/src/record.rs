@@ -1,5 +1,5 @@
-// image-rider's answers to a script, for crates/replay, which asks our libraries the same. Nothing of ours is called here.
-// Standard input is the script, whose steps are in the head of crates/replay/src/main.rt; the answers go to standard output.
+// image-rider's answers to a script, for crates/replay and crates/replay_parts, which ask our libraries the same. Nothing of ours is called here.
+// Standard input is the script, whose steps are in the heads of these programs and of crates/recorded/src/lib.rt; the answers go to standard output.
 // A step that document 01 does not name under "Compared", or an answer that has no number there, ends it: nothing of that kind is recorded.
 use std::collections::HashMap;
 use std::fmt::Write;
