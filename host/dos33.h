@@ -1,6 +1,6 @@
 /*
- * Apple DOS 3.3 and DOS 3.2 disks, nibble streams and archives. Link libhost.a (`rt staticlib
- * host`).
+ * Apple DOS 3.3 and DOS 3.2 disks, nibble streams and archives. Link libdos33.a: it is the library
+ * that `rt staticlib host` makes, target/staticlib/libhost.a, under this name.
  *
  * A flat disk is 35 tracks of sectors of 256 bytes. Its length alone says how many a track has:
  * 143,360 bytes are 16 (DOS 3.3), 116,480 bytes are 13 (DOS 3.2). Every function that takes a flat
@@ -25,12 +25,17 @@
  * Each comment names the refusals in the order in which they are tested. A yes or no handed in is a
  * uint8_t: 0 is no, anything else is yes. A type is one of the codes below.
  *
- * Two costs:
+ * Costs:
  *   - Stack: dos33_archive_open and dos33_archive_entry go as deep as the archive has blocks. Under
  *     352 KiB were measured for 4,096 blocks, and under 48 KiB for every other function.
  *   - Time: dos33_archive_entry goes through all of the archive, dos33_archive_step looks at one
  *     block. dos33_file, dos33_fetch and dos33_lists judge every file of the disk; for all files at
  *     once: dos33_archive_write, dos33_archive_open, then dos33_archive_step entry by entry.
+ *   - Time on streams: dos33_sector and dos33_sector_13 look for the first field of a key at each
+ *     field with a wrong sum that repeats one. Where these are many, the time grows with the square
+ *     of the stream's length: streams made for it, half bytes D5h and half such fields, took 0.12 s
+ *     at 233,003 bytes, 1.8 s at 1,000,214 and 7.5 s at 2,000,065. Without such fields it grows with
+ *     the length, and that of dos33_denibblize and dos33_denibblize_13 always does.
  */
 #ifndef DOS33_H
 #define DOS33_H
@@ -103,6 +108,7 @@ enum {
     DOS33_NIBBLES_SIZE = 343,       /* encode_sector: a sector in 6-and-2, and the sum */
     DOS33_NIBBLES_SIZE_13 = 411,    /* a sector in 5-and-3, and the sum; it is read, not written */
     DOS33_ENTRY_SIZE = 35,          /* entry_record */
+    DOS33_WORD_MOST = 15,           /* refusal_word */
     DOS33_VTOC_FIELDS = 13,
     DOS33_SURVEY_FIELDS = 7,
     DOS33_OPEN_FIELDS = 3,
@@ -205,7 +211,8 @@ uint8_t dos33_encode_sector(const uint8_t *sector, size_t sector_length,
                             uint8_t *out, size_t out_length, uint64_t *length);
 
 /* The 256 bytes of the field whose address has that volume, track and sector (the address's, not
-   the DOS sector). 8, 9, 10, 12. */
+   the DOS sector). The time may grow with the square of the stream's length: see above. 8, 9, 10,
+   12. */
 uint8_t dos33_sector(const uint8_t *stream, size_t stream_length,
                      uint8_t volume, uint8_t track, uint8_t sector,
                      uint8_t *out, size_t out_length, uint64_t *length);
@@ -214,8 +221,8 @@ uint8_t dos33_sector(const uint8_t *stream, size_t stream_length,
 uint8_t dos33_denibblize(const uint8_t *stream, size_t stream_length,
                          uint8_t *out, size_t out_length, uint64_t *length);
 
-/* As dos33_sector, by the address mark D5 AA B5 (h) and 5-and-3 coding. Here the address's sector
-   is the DOS sector. 8, 9, 10, 12. */
+/* As dos33_sector, its cost too, by the address mark D5 AA B5 (h) and 5-and-3 coding. Here the
+   address's sector is the DOS sector. 8, 9, 10, 12. */
 uint8_t dos33_sector_13(const uint8_t *stream, size_t stream_length,
                         uint8_t volume, uint8_t track, uint8_t sector,
                         uint8_t *out, size_t out_length, uint64_t *length);
@@ -255,6 +262,10 @@ uint8_t dos33_recognize_prologue(const uint8_t *stream, size_t stream_length);
    disk of 16 sectors a track has its VTOC. 17, 12. */
 uint8_t dos33_format_from_data(const uint8_t *data, size_t data_length,
                                uint64_t *fields, size_t fields_length);
+
+/* The letters of the word of a refusal, by its number; no zero is put behind them. A number that no
+   refusal has, 0 among them, has none: *length is 0. 12. */
+uint8_t dos33_refusal_word(uint8_t number, uint8_t *out, size_t out_length, uint64_t *length);
 
 #ifdef __cplusplus
 }

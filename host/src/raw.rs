@@ -178,7 +178,8 @@ extern "C" {
     ) -> u8;
 
     /// The 256 bytes of a sector of a stream of 16 sectors a track, by the key of its address field.
-    /// Refusals 8, 9, 10, 12.
+    /// The time may grow with the square of the stream's length, as
+    /// [`stream_sector`](crate::stream_sector) says. Refusals 8, 9, 10, 12.
     pub fn dos33_sector(
         stream: *const u8,
         stream_length: usize,
@@ -190,7 +191,8 @@ extern "C" {
         length: *mut u64,
     ) -> u8;
 
-    /// The flat disk of a stream of 16 sectors a track, 143,360 bytes. Refusals 8, 11, 9, 10, 12.
+    /// The flat disk of a stream of 16 sectors a track, 143,360 bytes. The time grows with the stream's
+    /// length. Refusals 8, 11, 9, 10, 12.
     pub fn dos33_denibblize(
         stream: *const u8,
         stream_length: usize,
@@ -200,7 +202,7 @@ extern "C" {
     ) -> u8;
 
     /// The 256 bytes of a sector of a stream of 13 sectors a track, by the key of its address field.
-    /// Refusals 8, 9, 10, 12.
+    /// The time is as that of [`dos33_sector`]. Refusals 8, 9, 10, 12.
     pub fn dos33_sector_13(
         stream: *const u8,
         stream_length: usize,
@@ -212,7 +214,8 @@ extern "C" {
         length: *mut u64,
     ) -> u8;
 
-    /// The flat disk of a stream of 13 sectors a track, 116,480 bytes. Refusals 8, 11, 9, 10, 12.
+    /// The flat disk of a stream of 13 sectors a track, 116,480 bytes. The time grows with the stream's
+    /// length. Refusals 8, 11, 9, 10, 12.
     pub fn dos33_denibblize_13(
         stream: *const u8,
         stream_length: usize,
@@ -277,4 +280,8 @@ extern "C" {
         fields: *mut u64,
         fields_length: usize,
     ) -> u8;
+
+    /// The letters of the word of a refusal, by its number: at most 15, ASCII. A number that no refusal has,
+    /// 0 among them, has none: accepted, and `*length` is 0. Refusal 12.
+    pub fn dos33_refusal_word(number: u8, out: *mut u8, out_length: usize, length: *mut u64) -> u8;
 }

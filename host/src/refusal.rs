@@ -1,5 +1,11 @@
 use std::error::Error;
 use std::fmt;
+use std::sync::OnceLock;
+
+use crate::{lend, raw};
+
+// The letters of the longest word.
+const WORD_MOST: usize = 15;
 
 /// Why a call refuses. Words and numbers are those of document 01, "Numbers on the slip".
 ///
@@ -59,8 +65,8 @@ pub enum Refusal {
 }
 
 impl Refusal {
-    /// All eighteen, in the order of their numbers.
-    pub const ALL: [Refusal; 18] = [
+    /// All that document 01 has, in the order of their numbers, from 1.
+    pub const ALL: &'static [Refusal] = &[
         Refusal::OffSize,
         Refusal::NoTable,
         Refusal::OffDisc,
@@ -119,35 +125,32 @@ impl Refusal {
         }
     }
 
-    /// The paper's word.
+    /// The paper's word, as the library has it; empty for a number that document 01 does not have.
     pub fn word(self) -> &'static str {
-        match self {
-            Refusal::OffSize => "off size",
-            Refusal::NoTable => "no table",
-            Refusal::OffDisc => "off disc",
-            Refusal::Ring => "ring",
-            Refusal::CutLink => "cut link",
-            Refusal::BadLetter => "bad letter",
-            Refusal::Overlong => "overlong",
-            Refusal::AddressSum => "address sum",
-            Refusal::DataSum => "data sum",
-            Refusal::Absent => "absent",
-            Refusal::Stranger => "stranger",
-            Refusal::TrayShort => "tray short",
-            Refusal::NotItsReturn => "not its return",
-            Refusal::UnwritableName => "unwritable name",
-            Refusal::NotBinary => "not binary",
-            Refusal::PageFull => "page full",
-            Refusal::CutShort => "cut short",
-            Refusal::NotOnRoll => "not on roll",
-            Refusal::Unnamed(_) => "no such number",
-        }
+        static WORDS: OnceLock<Vec<String>> = OnceLock::new();
+        let words = WORDS.get_or_init(|| (0..=255).map(word_of).collect());
+        words
+            .get(usize::from(self.number()))
+            .map_or("", String::as_str)
     }
+}
+
+// The word of a number, asked of the library: its letters are ASCII.
+fn word_of(number: u8) -> String {
+    // SAFETY: the space is this call's own.
+    let letters = lend::space(WORD_MOST, |o, n, l| unsafe {
+        raw::dos33_refusal_word(number, o, n, l)
+    });
+    String::from_utf8(letters.unwrap_or_default()).unwrap_or_default()
 }
 
 impl fmt::Display for Refusal {
     fn fmt(&self, f: &mut fmt::Formatter<'_>) -> fmt::Result {
-        write!(f, "{} ({})", self.word(), self.number())
+        let word = match self.word() {
+            "" => "no such number",
+            word => word,
+        };
+        write!(f, "{word} ({})", self.number())
     }
 }
 

@@ -222,6 +222,18 @@ fn calls_on_streams() {
     }
 }
 
+// The words of all numbers; `refusals.rs` has what each is.
+#[test]
+fn words_of_refusals() {
+    let word = |number| move |o, m, l| unsafe { dos33_refusal_word(number, o, m, l) };
+    assert_eq!(hands(4, &word(4)), b"ring");
+    assert_eq!(hands(15, &word(14)), b"unwritable name");
+    assert_eq!(hands(11, &word(18)), b"not on roll");
+    for number in (19..=255).chain([0]) {
+        assert_eq!(hands(0, &word(number)), b"");
+    }
+}
+
 // A disk of 13 sectors a track: the same bytes and numbers, but for free, used and where the lists stand.
 #[test]
 fn calls_on_a_flat_disk_of_13() {

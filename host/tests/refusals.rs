@@ -60,9 +60,15 @@ fn words_and_numbers() {
         assert_eq!((r.word(), usize::from(r.number())), (word, k + 1));
         assert_eq!(r.to_string(), format!("{word} ({})", k + 1));
     }
+    assert_eq!(Refusal::ALL.len(), words.len());
+    // The others have none.
     assert_eq!(Refusal::from_number(0), None);
-    assert_eq!(Refusal::from_number(19).map(Refusal::number), Some(19));
-    assert_eq!(Refusal::from_number(255).map(Refusal::number), Some(255));
+    assert_eq!(Refusal::Unnamed(0).word(), "");
+    for number in 19..=255 {
+        let r = Refusal::from_number(number).unwrap();
+        assert_eq!((r.number(), r.word()), (number, ""));
+        assert_eq!(r.to_string(), format!("no such number ({number})"));
+    }
     let e: Box<dyn std::error::Error + Send + Sync> = Box::new(Refusal::Ring);
     assert_eq!(e.to_string(), "ring (4)");
 }
@@ -160,6 +166,7 @@ fn overlong_7() {
     let d = common::large(16);
     assert_eq!(Disk::flat(&d).survey().unwrap().archive_blocks, 4161);
     assert_eq!(Disk::flat(&d).archive(), Err(Refusal::Overlong));
+    assert_eq!(Disk::flat(&d).files(), Err(Refusal::Overlong));
     assert_eq!(Disk::flat(&d).check(&archive), Err(Refusal::Overlong));
 }
 

@@ -224,6 +224,17 @@ int main(void) {
     EXPECT(dos33_format_from_data(disk, 8, f, DOS33_FORMAT_FIELDS) == DOS33_CUT_SHORT && f[0] == 77);
     EXPECT(dos33_format_from_data(disk, sizeof disk, f, DOS33_FORMAT_FIELDS) == 0 && f[0] == 0);
 
+    /* The word of a number; a number that no refusal has has none. */
+    memset(out, 1, sizeof out);
+    EXPECT(dos33_refusal_word(DOS33_UNWRITABLE_NAME, out, DOS33_WORD_MOST - 1, &n) == DOS33_TRAY_SHORT);
+    EXPECT(n == 99 && out[0] == 1);
+    EXPECT(dos33_refusal_word(DOS33_UNWRITABLE_NAME, out, DOS33_WORD_MOST, &n) == 0);
+    EXPECT(n == DOS33_WORD_MOST && memcmp(out, "unwritable name", n) == 0);
+    EXPECT(dos33_refusal_word(DOS33_RING, out, sizeof out, &n) == 0);
+    EXPECT(n == 4 && memcmp(out, "ringitable name", DOS33_WORD_MOST) == 0);
+    EXPECT(dos33_refusal_word(DOS33_ACCEPTED, out, 0, &n) == 0 && n == 0);
+    EXPECT(dos33_refusal_word(19, out, 0, &n) == 0 && n == 0 && out[0] == 'r');
+
     puts("good");
     return 0;
 }

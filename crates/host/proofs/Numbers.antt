@@ -1,10 +1,11 @@
--- Numbers handed over in elements, and the part of a window. Assumes nothing.
+-- Numbers handed over in elements, and bytes: the part of a window, the word of a refusal. Assumes nothing.
 use mathlib.Core.Path.{_≡_, refl, sym, ap, subst, _∙_}
 use mathlib.Core.Bool.{Bool, true, false, cond}
 use mathlib.Core.List.{List, [], _∷_, _++_}
 use Prim.Native.Nat.{ℕ, zero, suc, _+_, _-_, _<_, _≤_}
 use native.Mathlib.Omega.{arith}
-use lib.ListN.{length, getD, drop}
+use lib.ListN.{length, getD, take, drop, replicate}
+use lib.Seq.{take-at}
 use lib.Dec.{eqb, leb, ltb}
 use borrow.Author.Tests.{eq-eqb, le-leb, lt-leb, lt-ltb, le-ltb}
 use borrow.Author.Needs.{needs}
@@ -13,8 +14,11 @@ use Rattle.lists.proofs.Laws.{tab-self}
 use Rattle.lists.proofs.Split.{by-test}
 use Rattle.lists.proofs.Fills.{FillTo, fill-start, fill-turn, fill-end}
 use Rattle.lists.proofs.Put.{placed-put, put-front}
-use Rattle.outcome.specs.Refusal.{code}
+use Rattle.outcome.specs.Refusal.{code, spelled, wordOf, refusalOf, wordFor, shownWord}
 use Rattle.outcome.specs.declared.Refusal.{Refusal}
+use Rattle.outcome.specs.declared.Meaning.{Meaning}
+use Rattle.outcome.specs.declared.Meaning.the-variants.{Refused, Nothing}
+use Rattle.outcome.specs.declared.Word.{Word}
 use Rattle.outcome.specs.Outcome.{Outcome, refused, given, _>>=_, number, handed, leftBy}
 use Rattle.outcome.proofs.Outcome.{code-pos}
 use Rattle.disk.specs.declared.Place.{Place}
@@ -31,7 +35,7 @@ use Rattle.reader.specs.declared.Entry.{Entry}
 use Rattle.reader.specs.Steps.{openedWith, entryOf, fieldsOf, entryWith, isEntry, entryStep}
 use Rattle.records.specs.declared.Format.{Format}
 use Rattle.records.specs.Formats.{recognized, formatOf}
-use Rattle.host.specs.Exports.{Exports, Fields, vtocValues, vtocNumbers, surveyNumbers, openNumbers, entryFields, entryNumbers, formatNumbers}
+use Rattle.host.specs.Exports.{Exports, Fields, lettersFor, lettersOf, vtocValues, vtocNumbers, surveyNumbers, openNumbers, entryFields, entryNumbers, formatNumbers}
 
 -- ---- the elements
 pub fields-copied : (v : List ℕ) (k : ℕ) (d o : List ℕ) → FillTo (λ j. getD v j 0) (length v) k d o → length v ≤ k → o ≡ v ++ drop (length v) d
@@ -190,6 +194,18 @@ module _ (x : List ℕ) (d : List ℕ) where
 
 pub ruleset recognising = (format-refused, format-given, needs)
 
+-- ---- bytes handed over
+module _ (y o : List ℕ) (n : ℕ) where
+  pub bytes-short : length o < length y → Exports (given y) o o n n 12
+  bytes-short l = let f : leb (length y) (length o) ≡ false = lt-leb (length y) (length o) l in record { result = rw f refl; left = rw f refl; length = rw f refl }
+
+  pub bytes-done : length y ≤ length o → (o′ : List ℕ) → o′ ≡ placed 0 y o → Exports (given y) o o′ n (length y) 0
+  bytes-done l o′ q =
+      let f : leb (length y) (length o) ≡ true = le-leb (length y) (length o) l in
+      record { result = rw f refl; left = rw f (put-front (placed-put q (omega arith))); length = rw f refl }
+
+pub ruleset handing = (bytes-short, bytes-done, needs)
+
 -- ---- the window
 module _ (w : Outcome (List ℕ)) (o : List ℕ) (n : ℕ) where
   pub window-refused : (k : ℕ) → k ≡ number w → (k ≡ 0 → ⊥) → Exports w o o n n k
@@ -203,20 +219,32 @@ module _ (w : Outcome (List ℕ)) (o : List ℕ) (n : ℕ) where
   window-is (refused q) k y e z h = absurd (omega (arith, code-pos q))
   window-is (given x) k y e z h = ap given (sym h)
 
-  module _ (k : ℕ) (e : k ≡ number w) (z : k ≡ 0) (y : List ℕ) (h : y ≡ part w) where
-    pub window-short : length o < length y → Exports w o o n n 12
-    window-short l =
-        let p = window-is w k y e z h in
-        let f : leb (length y) (length o) ≡ false = lt-leb (length y) (length o) l in
-        record { result = rw (p, f) refl; left = rw (p, f) refl; length = rw (p, f) refl }
+  pub window-given : (k : ℕ) → k ≡ number w → k ≡ 0 → (y : List ℕ) → y ≡ part w → (o′ : List ℕ) (m r : ℕ) → Exports (given y) o o′ n m r → Exports w o o′ n m r
+  window-given k e z y h o′ m r u = subst (λ (x : Outcome (List ℕ)). Exports x o o′ n m r) (sym (window-is w k y e z h)) u
 
-    pub window-done : length y ≤ length o → (o′ : List ℕ) → o′ ≡ placed 0 y o → Exports w o o′ n (length y) 0
-    window-done l o′ q =
-        let p = window-is w k y e z h in
-        let f : leb (length y) (length o) ≡ true = le-leb (length y) (length o) l in
-        record { result = rw (p, f) refl; left = rw (p, f) (put-front (placed-put q (omega arith))); length = rw (p, f) refl }
+pub ruleset windows = (window-refused, window-given, needs)
 
-pub ruleset windows = (window-refused, window-short, window-done, needs)
+-- ---- the word of a refusal
+word-letters : (m : Meaning) → wordFor m ≡ spelled (lettersFor m)
+unfolding wordOf
+word-letters (Refused r) = refl
+word-letters Nothing = refl
+
+word-shown : (x : ℕ) → shownWord x ≡ spelled (lettersOf x)
+unfolding shownWord lettersOf
+word-shown x = word-letters (refusalOf x)
+
+spelled-front : (l : List ℕ) → take (length l) (drop 0 (l ++ replicate (15 - length l) 0)) ≡ l
+spelled-front l = take-at l (replicate (15 - length l) 0) (length l) refl
+
+word-front : (x : ℕ) (w : Word) → w ≡ shownWord x → take (w .1) (drop 0 (w .0)) ≡ lettersOf x
+word-front x w e = ap (λ (v : Word). take (v .1) (drop 0 (v .0))) (e ∙ word-shown x) ∙ spelled-front (lettersOf x)
+
+pub word-given : (x : ℕ) (w : Word) → w ≡ shownWord x → (y : List ℕ) → y ≡ take (w .1) (drop 0 (w .0)) → (o o′ : List ℕ) (n m r : ℕ)
+    → Exports (given y) o o′ n m r → Exports (given (lettersOf x)) o o′ n m r
+word-given x w e y h o o′ n m r u = subst (λ (l : List ℕ). Exports (given l) o o′ n m r) (h ∙ word-front x w e) u
+
+pub ruleset wording = (word-given, needs)
 
 -- ---- direction_byte
 pub direction-at : (d : List ℕ) (r n : ℕ) → n ≡ perOf d → r ≡ byteOf n d vtoc 49 → r ≡ byteOf (perOf d) d vtoc 49

@@ -6,6 +6,9 @@ use Prim.Native.Nat.{ℕ}
 use lib.ListN.{length}
 use lib.Dec.{eqb}
 use Rattle.outcome.specs.declared.Handed.{Handed}
+use Rattle.outcome.specs.declared.Meaning.{Meaning}
+use Rattle.outcome.specs.declared.Meaning.the-variants.{Refused, Nothing}
+use Rattle.outcome.specs.Refusal.{word, refusalOf}
 use Rattle.outcome.specs.Outcome.{Outcome, refused, given, _>>=_, _>>_, number, handed, leftBy}
 use Rattle.disk.specs.declared.VolumeTableOfContents.{VolumeTableOfContents}
 use Rattle.disk.specs.Disk.{perOf, byteOf}
@@ -41,6 +44,15 @@ pub record Fields (o : Outcome (List ℕ)) (before after : List ℕ) (r : ℕ) :
 pub record Told (h : Handed) (n m r : ℕ) : Type 0 where
   pub result : r ≡ h .refusal
   pub length : m ≡ cond (eqb (h .refusal) 0) (h .length) n
+
+-- the letters of the word for what a number says, none for nothing ..
+abbrev pub lettersFor : Meaning → List ℕ
+lettersFor (Refused r) = word r
+lettersFor Nothing = []
+
+-- .. and for the number
+unfoldable pub lettersOf : ℕ → List ℕ
+lettersOf n = lettersFor (refusalOf n)
 
 -- the numbers of a table, with the byte of its direction
 abbrev pub vtocValues : VolumeTableOfContents → ℕ → List ℕ

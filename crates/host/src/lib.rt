@@ -23,11 +23,12 @@ ghost use Rattle.outcome.specs.Outcome.{given};
 ghost use Rattle.records.specs.Records.{entryWritten, pageWritten, fileWritten};
 ghost use Rattle.fields.specs.Search.{recognized};
 ghost use Rattle.reader.specs.Steps.{entryStep};
-ghost use Rattle.host.specs.Exports.{Exports, Fields, Told, yes, vtocNumbers, surveyNumbers, openNumbers, entryFields, entryNumbers, formatNumbers};
+ghost use Rattle.host.specs.Exports.{Exports, Fields, Told, yes, lettersOf, vtocNumbers, surveyNumbers, openNumbers, entryFields, entryNumbers, formatNumbers};
 use disk::Place;
 use disk::Sector;
 use disk::Track;
 use lists::copy_at;
+use lists::part;
 use outcome::Handed;
 use outcome::TRAY_SHORT;
 use pairs::TrackSectorPair;
@@ -254,6 +255,18 @@ pub extern "C" fn dos33_recognize_prologue(stream: &[u8]) -> u8
     fields::recognize_prologue(stream)
 }
 
+// Hands the bytes over; 12 where there is too little space.
+fn put_bytes(bytes: &[u8], out: &mut [u8], length: &mut u64) -> u8
+    ensures { λ r. ⌜ Exports (given (now (bytes .entry))) (now (out .entry)) (now (out .exit)) (now (length .entry)) (now (length .exit)) r ⌝ }
+{
+    if out.len() < bytes.len() {
+        return TRAY_SHORT;
+    }
+    copy_at(bytes, out, 0);
+    *length = bytes.len() as u64;
+    0
+}
+
 // A sector of the disk if flat, else of the image. 1, 3, 12.
 #[no_mangle]
 pub extern "C" fn dos33_window<'a>(
@@ -272,12 +285,17 @@ pub extern "C" fn dos33_window<'a>(
         return number;
     }
     let bytes = disk::window(disk, image, flat != 0, Track(track), Sector(sector));
-    if out.len() < bytes.len() {
-        return TRAY_SHORT;
-    }
-    copy_at(bytes, out, 0);
-    *length = bytes.len() as u64;
-    0
+    put_bytes(bytes, out, length)
+}
+
+// The letters of a refusal's word, by its number: at most 15, and none where no refusal has the number, as for 0. 12.
+#[no_mangle]
+pub extern "C" fn dos33_refusal_word(number: u8, out: &mut [u8], length: &mut u64) -> u8
+    ensures { λ r. ⌜ Exports (given (lettersOf number)) (now (out .entry)) (now (out .exit)) (now (length .entry)) (now (length .exit)) r ⌝ }
+{
+    let word = outcome::refusal_word(number);
+    let letters = word.0;
+    put_bytes(part(&letters, 0, word.1 as usize), out, length)
 }
 
 // Puts the values to the front of the elements.

@@ -9,8 +9,7 @@ dos33-window-spec =
     (λ c κs. search windows)  -- window-refusal-requires
     (λ c. search windows)  -- returns
     (λ c κs. search windows)  -- window-requires
-    (λ c. search windows)  -- returns-2
-    (λ c κs. search windows)  -- copy-at-requires
+    (λ c κs. search windows)  -- put-bytes-requires
     (λ c. search windows)  -- same-length
-    (λ c. search windows)  -- returns-3
+    (λ c. search windows)  -- returns-2
     )
