@@ -1,7 +1,6 @@
 use std::iter::FusedIterator;
 
-use crate::types::text;
-use crate::{lend, raw, FileType, RawName, Refusal};
+use crate::{lend, raw, FileType, Name, RawName, Refusal};
 
 /// An archive that was opened: the contents of a disk in blocks of 256 bytes. It is lent, not copied.
 ///
@@ -146,7 +145,7 @@ impl<'a> Iterator for Entries<'a> {
 
 impl FusedIterator for Entries<'_> {}
 
-/// An entry of an archive. Its name, shown and as it is cut, and its data are lent from the archive.
+/// An entry of an archive. Its name as it is cut and its data are lent from the archive.
 #[derive(Clone, Copy, Debug)]
 pub struct ArchiveEntry<'a> {
     bytes: &'a [u8],
@@ -186,9 +185,9 @@ impl<'a> ArchiveEntry<'a> {
         self.block
     }
 
-    /// The name as it is shown: ASCII, at most 30 bytes. It may hold control characters.
-    pub fn name(&self) -> &'a str {
-        text(self.name)
+    /// The name as it is shown. It may hold control characters, which are escaped where it is printed.
+    pub fn name(&self) -> Name {
+        Name::shown(self.name, self.name.len() as u8)
     }
 
     /// The name as it is cut: its 30 bytes on the disk. Two names that show alike may differ here, in high

@@ -1,7 +1,7 @@
 use crate::types::locations;
 use crate::{
-    denibblize, denibblize_13, lend, nibblize, raw, Archive, CatalogEntry, File, FileType,
-    Location, Name, RawName, Refusal, Sector, Survey, Track, TrackSectorPair, Vtoc, LIST_PAIRS,
+    denibblize, denibblize_13, lend, nibblize, raw, Archive, ArchiveEntry, CatalogEntry, File,
+    FileType, Location, Name, Refusal, Sector, Survey, Track, TrackSectorPair, Vtoc, LIST_PAIRS,
     SECTORS_PER_TRACK, TRACKS,
 };
 
@@ -139,8 +139,8 @@ impl<'a> Disk<'a> {
     /// [`file`](Disk::file) of each give. It costs the catalog and the archive, not a pass over the disk
     /// for each file.
     ///
-    /// The archive is written and stepped through. A disk whose archive would have over 4,096 blocks (7)
-    /// is read file by file instead, so that nothing is lost.
+    /// The archive is written and stepped through. So a disk whose archive would have over 4,096 blocks is
+    /// refused as [`Refusal::Overlong`]; `catalog`, `file` and [`fetch`](Disk::fetch) serve it.
     ///
     /// ```
     /// use dos33::{binary_file, catalog_page, Disk, EntryRecord, FileType, Location, Sector, Track};
@@ -174,50 +174,11 @@ impl<'a> Disk<'a> {
     /// ```
     ///
     /// # Errors
-    /// 1 to 6.
+    /// 1 to 6, 7.
     pub fn files(&self) -> Result<Vec<File>, Refusal> {
-        let entries = self.catalog()?.into_iter();
-        let file = |entry, &raw_name: &RawName, bytes| File {
-            entry,
-            raw_name,
-            bytes,
-        };
-        match self.write_archive() {
-            Ok(archive) => {
-                let all = entries.zip(Archive::written(&archive).entries());
-                Ok(all
-                    .map(|(entry, step)| file(entry, step.raw_name(), step.to_vec()))
-                    .collect())
-            }
-            Err(Refusal::Overlong) => {
-                let names = self.raw_names()?;
-                let all = entries.zip(&names).enumerate();
-                all.map(|(k, (entry, name))| Ok(file(entry, name, self.file(k)?)))
-                    .collect()
-            }
-            Err(refusal) => Err(refusal),
-        }
-    }
-
-    // The name bytes of a catalog that was read before, page by page: an archive has them, and this is for a
-    // disk that has none.
-    fn raw_names(&self) -> Result<Vec<RawName>, Refusal> {
-        let mut names = Vec::new();
-        let mut at = self.vtoc()?.catalog;
-        loop {
-            let page = self.sector(at.track, at.sector)?;
-            let live = page[11..]
-                .chunks_exact(35)
-                .filter(|e| !matches!(e[0], 0 | 0xFF));
-            names.extend(live.filter_map(|e| e[3..].first_chunk::<30>()));
-            if page[1] == 0 || page[2] == 0 {
-                return Ok(names);
-            }
-            at = Location {
-                track: Track(page[1]),
-                sector: Sector(page[2]),
-            };
-        }
+        let entries = self.catalog()?;
+        let archive = self.write_archive()?;
+        paired(entries, Archive::written(&archive).entries())
     }
 
     /// The bytes of the last entry with that name, as the catalog shows it.
@@ -418,5 +379,102 @@ fn entry(e: &[u8]) -> CatalogEntry {
         locked: e[3] != 0,
         name: Name::shown(&e[5..35], e[4]),
         sectors: u16::from_le_bytes([e[35], e[36]]),
+    }
+}
+
+// The entry of the catalog and that of the archive are one.
+fn same(entry: &CatalogEntry, step: &ArchiveEntry<'_>) -> bool {
+    entry.name == step.name()
+        && entry.kind == step.kind()
+        && entry.locked == step.locked()
+        && entry.sectors == step.sectors()
+}
+
+// The files of a catalog, with the bytes of the archive. Where the two differ, the archive is not this disk's.
+fn paired<'a>(
+    entries: Vec<CatalogEntry>,
+    mut steps: impl Iterator<Item = ArchiveEntry<'a>>,
+) -> Result<Vec<File>, Refusal> {
+    let mut files = Vec::with_capacity(entries.len());
+    for entry in entries {
+        let step = steps.next().filter(|step| same(&entry, step));
+        let step = step.ok_or(Refusal::NotItsReturn)?;
+        files.push(File {
+            entry,
+            raw_name: *step.raw_name(),
+            bytes: step.to_vec(),
+        });
+    }
+    match steps.next() {
+        None => Ok(files),
+        Some(_) => Err(Refusal::NotItsReturn),
+    }
+}
+
+#[cfg(test)]
+mod tests {
+    use super::*;
+    use crate::{catalog_page, EntryRecord, DISK_SIZE};
+
+    // A disk of three entries without bytes.
+    fn disk() -> Result<Vec<u8>, Refusal> {
+        let mut bytes = vec![0; DISK_SIZE];
+        let vtoc = 17 * 4096;
+        bytes[vtoc + 1..][..2].copy_from_slice(&[17, 15]);
+        bytes[vtoc + 52..][..2].copy_from_slice(&[35, 16]);
+        let record = |name, kind, locked, sectors| EntryRecord {
+            list: Location::new(Track(18), Sector(15)),
+            kind,
+            locked,
+            name,
+            sectors,
+        };
+        let page = catalog_page(
+            &[],
+            &[
+                record(b"LINE 7", FileType::Binary, true, 5),
+                record(b"NOTES", FileType::Text, false, 2),
+                record(b"LINE 7", FileType::Binary, false, 3),
+            ],
+        )?;
+        bytes[vtoc + 15 * 256..][..256].copy_from_slice(&page);
+        Ok(bytes)
+    }
+
+    #[test]
+    fn a_catalog_and_the_archive_of_another_disk() -> Result<(), Refusal> {
+        let bytes = disk()?;
+        let disk = Disk::flat(&bytes);
+        let entries = disk.catalog()?;
+        let archive = disk.archive()?;
+        let steps = || Archive::written(&archive).entries();
+        let files = paired(entries.clone(), steps())?;
+        assert_eq!(files, disk.files()?);
+        assert_eq!(files.len(), 3);
+
+        // One fewer on either side, and none.
+        let other = Err(Refusal::NotItsReturn);
+        assert_eq!(paired(entries[..2].to_vec(), steps()), other);
+        assert_eq!(paired(entries.clone(), steps().take(2)), other);
+        assert_eq!(paired(Vec::new(), steps()), other);
+        assert_eq!(paired(entries.clone(), steps().take(0)), other);
+        // Each in which an entry can differ, at each entry.
+        let changes: [fn(&mut CatalogEntry); 4] = [
+            |e| e.name = Name::shown(b"LINE 8", 6),
+            |e| e.kind = FileType::Unknown,
+            |e| e.locked = !e.locked,
+            |e| e.sectors += 1,
+        ];
+        for change in changes {
+            for k in 0..3 {
+                let mut entries = entries.clone();
+                change(&mut entries[k]);
+                assert_eq!(paired(entries, steps()), other);
+            }
+        }
+        // Another order of the same.
+        let turned = entries.iter().rev().copied().collect();
+        assert_eq!(paired(turned, steps()), other);
+        Ok(())
     }
 }

@@ -61,10 +61,15 @@
 //! | unroll, nibble writer | [`denibblize`], [`denibblize_13`], [`nibblize`] |
 //! | slip, number | [`Refusal`], [`Refusal::number`] |
 //!
-//! Two costs to know. [`Archive::open`] and [`Archive::entry`] go as deep as the archive has blocks, so
-//! they want 512 KiB of stack; a step of [`Archive::entries`] looks at one block alone. And
+//! Costs to know. [`Archive::open`] and [`Archive::entry`] go as deep as the archive has blocks, so
+//! they want 512 KiB of stack; a step of [`Archive::entries`] looks at one block alone.
 //! [`Disk::file`], [`Disk::fetch`] and [`Disk::lists`] judge every file of the disk at each call: for
-//! all files in one go there is [`Disk::files`].
+//! all files in one go there is [`Disk::files`], but where the archive would have over 4,096 blocks, which
+//! it refuses as [`Refusal::Overlong`]. [`stream_sector`] and [`stream_sector_13`] may take a time that
+//! grows with the square of the stream's length.
+//!
+//! Later versions may add refusals, and fields to what is answered: [`Refusal`], [`CatalogEntry`],
+//! [`File`], [`Vtoc`] and [`Survey`] are `non_exhaustive`.
 #![warn(missing_docs)]
 
 mod archive;

@@ -113,7 +113,7 @@ pub struct Name {
 }
 
 impl Name {
-    // From 30 bytes and a length, as the catalog call writes them.
+    // From the bytes of a field and a length, as the catalog call writes them and as an archive has them.
     pub(crate) fn shown(field: &[u8], length: u8) -> Name {
         let mut bytes = [0u8; 30];
         let n = usize::from(length).min(30).min(field.len());
@@ -136,7 +136,7 @@ impl Name {
 }
 
 // Shown names are ASCII, so nothing is lost.
-pub(crate) fn text(bytes: &[u8]) -> &str {
+fn text(bytes: &[u8]) -> &str {
     std::str::from_utf8(bytes).unwrap_or("")
 }
 
@@ -180,6 +180,7 @@ impl fmt::Display for Name {
 
 /// A live entry of the catalog.
 #[derive(Clone, Copy, Debug, PartialEq, Eq, Hash)]
+#[non_exhaustive]
 pub struct CatalogEntry {
     /// Where its first track/sector list stands.
     pub list: Location,
@@ -198,6 +199,7 @@ pub type RawName = [u8; 30];
 
 /// A file: its entry in the catalog, its name as it is cut, and its bytes.
 #[derive(Clone, Debug, PartialEq, Eq, Hash)]
+#[non_exhaustive]
 pub struct File {
     /// The entry.
     pub entry: CatalogEntry,
@@ -209,6 +211,7 @@ pub struct File {
 
 /// The volume table of contents.
 #[derive(Clone, Copy, Debug, PartialEq, Eq, Hash)]
+#[non_exhaustive]
 pub struct Vtoc {
     /// First catalog page: the catalog is read from here, on whatever track. One that is not on the disk is
     /// shown all the same; the calls that read the catalog refuse it as 3.
@@ -240,6 +243,7 @@ pub struct Vtoc {
 
 /// A disk in seven numbers.
 #[derive(Clone, Copy, Debug, PartialEq, Eq, Hash)]
+#[non_exhaustive]
 pub struct Survey {
     /// Volume byte.
     pub volume: u8,

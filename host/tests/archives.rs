@@ -19,7 +19,7 @@ fn agrees(disk: &Disk<'_>, bytes: &[u8]) {
     let mut steps = archive.entries();
     for (k, c) in catalog.iter().enumerate() {
         let e = steps.next().unwrap();
-        assert_eq!(e.name(), c.name.as_str());
+        assert_eq!(e.name(), c.name);
         assert_eq!(
             (e.kind(), e.locked(), e.sectors()),
             (c.kind, c.locked, c.sectors)
@@ -50,7 +50,7 @@ fn written_checked_opened_and_stepped_through() {
     assert_eq!(bytes[..5], [254, 1, 0, 8, 0]);
     agrees(&flat, &bytes);
     let archive = Archive::open(&bytes).unwrap();
-    let names: Vec<&str> = archive.into_iter().map(|e| e.name()).collect();
+    let names: Vec<Name> = archive.into_iter().map(|e| e.name()).collect();
     assert_eq!(names, ["LINE 7", "NOTES", "LINE 7"]);
     assert_eq!(archive.entries().next().unwrap().to_vec(), binary());
     assert_eq!(archive.bytes(), bytes);
@@ -62,7 +62,7 @@ fn written_checked_opened_and_stepped_through() {
 
 // What is lent outlives the archive and the iterators.
 #[test]
-fn names_and_data_are_lent_from_the_bytes() {
+fn name_bytes_and_data_are_lent_from_the_bytes() {
     let d = disk();
     let bytes = Disk::flat(&d).archive().unwrap();
     let (name, raw_name, part) = {
@@ -70,7 +70,8 @@ fn names_and_data_are_lent_from_the_bytes() {
         let e = archive.entries().last().unwrap();
         (e.name(), e.raw_name(), e.data().next().unwrap())
     };
-    assert_eq!((name, part), ("LINE 7", &[11, 22, 33][..]));
+    assert_eq!(name, "LINE 7");
+    assert_eq!(part, [11, 22, 33]);
     assert_eq!(raw_name[..7], *b"\xCC\xC9\xCE\xC5\xA0\xB7\xA0");
     assert!(bytes.as_ptr_range().contains(&raw_name.as_ptr()));
 }
@@ -141,7 +142,7 @@ fn the_largest_archives() {
         archive
             .entries()
             .zip(1..)
-            .filter(|(e, b)| e.block() == *b && e.is_empty() && e.name().is_empty())
+            .filter(|(e, b)| e.block() == *b && e.is_empty() && e.name() == "")
             .count(),
         4095
     );

@@ -2,6 +2,7 @@
 mod common;
 use common::{at, binary, disk};
 use dos33::*;
+use std::time::{Duration, Instant};
 
 // How many files there were, or the refusal.
 fn agrees(disk: &Disk<'_>) -> Result<usize, Refusal> {
@@ -44,7 +45,7 @@ fn no_file_and_large_ones() {
     assert_eq!(agrees(&Disk::flat(&common::large(15))), Ok(15));
 }
 
-// An archive of over 4,096 blocks is refused as 7; the files are still given.
+// An archive of over 4,096 blocks: in one go the files are refused as 7, one by one they are given.
 #[test]
 fn an_archive_that_is_overlong() {
     let mut d = common::large(16);
@@ -53,15 +54,60 @@ fn an_archive_that_is_overlong() {
     common::entry(&mut d, 17, 13, 2, (20, 1), 4, "LAST", 260);
     let flat = Disk::flat(&d);
     assert_eq!(flat.archive(), Err(Refusal::Overlong));
-    assert_eq!(agrees(&flat), Ok(17));
-    let files = flat.files().unwrap();
-    assert_eq!(files[0].bytes, vec![0xFF; 65_535]);
-    assert_eq!(files[1].bytes, []);
-    assert_eq!(files[16].entry.name, "LAST");
-    assert_eq!(files[16].bytes, vec![0xFF; 65_535]);
+    assert_eq!(flat.files(), Err(Refusal::Overlong));
+    let entries = flat.catalog().unwrap();
+    assert_eq!((entries.len(), entries[16].name.as_str()), (17, "LAST"));
+    assert_eq!(flat.file(0), Ok(vec![0xFF; 65_535]));
+    assert_eq!(flat.file(1), Ok(Vec::new()));
+    assert_eq!(flat.file(16), Ok(vec![0xFF; 65_535]));
+    assert_eq!(flat.fetch("LAST"), Ok(vec![0xFF; 65_535]));
     // Refused for another reason: that one.
     d[at(20, 3) + 1] = 20;
     assert_eq!(Disk::flat(&d).files(), Err(Refusal::CutLink));
+}
+
+#[test]
+fn the_overlong_sample() {
+    let flat = Disk::flat(include_bytes!("../../samples/overlong.dsk"));
+    assert!(flat.survey().unwrap().archive_blocks > 4096);
+    assert_eq!(flat.files(), Err(Refusal::Overlong));
+    let entries = flat.catalog().unwrap();
+    assert_eq!(entries.len(), 16);
+    assert_eq!(flat.file(15).unwrap().len(), 65_532);
+    assert_eq!(flat.fetch(entries[0].name).unwrap().len(), 65_532);
+}
+
+// As many full pages as links can lead to, each of them also a full list of every entry: one pass over the disk follows 1.8 million
+// links and looks at 222 million pairs.
+#[test]
+fn very_many_entries() {
+    let mut d = vec![0u8; common::SIZE];
+    let v = at(17, 0);
+    d[v + 1..v + 3].copy_from_slice(&[1, 1]);
+    d[v + 52..v + 54].copy_from_slice(&[35, 16]);
+    let pages: Vec<(usize, usize)> = (1..35).flat_map(|t| (1..16).map(move |s| (t, s))).collect();
+    for (k, &(track, sector)) in pages.iter().enumerate() {
+        // Entries with their list at 1/1, the first page. Every two bytes are a place on the disk.
+        let page = at(track, sector);
+        d[page + 11..page + 256].fill(1);
+        for slot in 0..7 {
+            d[page + 11 + 35 * slot + 2] = 4;
+        }
+        if let Some(&(t, s)) = pages.get(k + 1) {
+            d[page + 1..page + 3].copy_from_slice(&[t as u8, s as u8]);
+        }
+    }
+    let flat = Disk::flat(&d);
+    let start = Instant::now();
+    assert_eq!(flat.files(), Err(Refusal::Overlong));
+    assert!(start.elapsed() < Duration::from_secs(60));
+    // It is a good disk, and it is served. The first sector of every file is 1/4, whose bytes 2 and 3 are 5 and 0.
+    let survey = flat.survey().unwrap();
+    assert_eq!((survey.entries, survey.links), (3570, 510 + 3570 * 510));
+    let entries = flat.catalog().unwrap();
+    assert_eq!((entries.len(), entries[3569].sectors), (3570, 0x101));
+    assert_eq!(flat.file(3569), Ok(vec![0; 5]));
+    assert_eq!(flat.fetch(entries[3569].name), Ok(vec![0; 5]));
 }
 
 #[test]

@@ -95,33 +95,6 @@ fn two_on_one_disk() {
     );
 }
 
-// The names of files are read from the pages where there is no archive.
-#[test]
-fn names_where_the_archive_is_overlong() {
-    let mut d = common::large(17);
-    let mut dice = Dice(7);
-    let mut due: Vec<RawName> = Vec::new();
-    for f in 0..17 {
-        let at = at_of(16, 17, 15 - f / 7) + 11 + 35 * (f % 7);
-        let name = &mut d[at + 3..at + 33];
-        name.fill_with(|| 0x81 + dice.roll(0x7F) as u8);
-        // One is not in use.
-        if f == 4 {
-            d[at] = 0xFF;
-        } else {
-            due.push(d[at + 3..at + 33].try_into().unwrap());
-        }
-    }
-    let flat = Disk::flat(&d);
-    assert_eq!(flat.archive(), Err(Refusal::Overlong));
-    let files = flat.files().unwrap();
-    assert_eq!(files.len(), 16);
-    for (file, raw) in files.iter().zip(&due) {
-        assert_eq!(file.raw_name, *raw);
-        assert_eq!(file.entry.name.as_bytes(), shown(raw));
-    }
-}
-
 // Name bytes by chance, with 80h among some: what the archive holds is what stands on the disk.
 #[test]
 fn names_by_chance() {

@@ -18,23 +18,14 @@ fn both(test: impl Fn(&Disk<'_>, &[u8])) {
 #[test]
 fn vtoc() {
     both(|d, _| {
+        let v = d.vtoc().unwrap();
+        assert_eq!((v.catalog, v.release, v.volume), (place(17, 15), 3, 254));
         assert_eq!(
-            d.vtoc().unwrap(),
-            Vtoc {
-                catalog: place(17, 15),
-                release: 3,
-                volume: 254,
-                pair_maximum: 122,
-                last_track: Track(18),
-                direction: -1,
-                tracks: 35,
-                sectors: 16,
-                sector_size: 256,
-                free: 15,
-                used: 545,
-                percent_used: 97,
-            }
+            (v.pair_maximum, v.last_track, v.direction),
+            (122, Track(18), -1)
         );
+        assert_eq!((v.tracks, v.sectors, v.sector_size), (35, 16, 256));
+        assert_eq!((v.free, v.used, v.percent_used), (15, 545, 97));
     });
 }
 
@@ -128,20 +119,13 @@ fn sectors() {
 #[test]
 fn survey() {
     both(|d, _| {
-        assert_eq!(
-            d.survey().unwrap(),
-            Survey {
-                volume: 254,
-                entries: 3,
-                free: 15,
-                used: 545,
-                percent_used: 97,
-                // Block 0, three entries, 600 / 254 rounded up, 3 / 254 rounded up.
-                archive_blocks: 1 + 3 + 3 + 1,
-                // Two pages, four lists.
-                links: 6,
-            }
-        );
+        let s = d.survey().unwrap();
+        assert_eq!((s.volume, s.entries), (254, 3));
+        assert_eq!((s.free, s.used, s.percent_used), (15, 545, 97));
+        // Block 0, three entries, 600 / 254 rounded up, 3 / 254 rounded up.
+        assert_eq!(s.archive_blocks, 1 + 3 + 3 + 1);
+        // Two pages, four lists.
+        assert_eq!(s.links, 6);
     });
 }
 
@@ -154,6 +138,14 @@ fn a_name_with_control_characters() {
     let c = Disk::flat(&d).catalog().unwrap();
     assert_eq!(c[0].name.as_bytes(), b"\x04\x1BNE 7");
     assert_eq!(c[0].name.to_string(), "\\u{4}\\u{1b}NE 7");
+    // The same from an archive.
+    let bytes = Disk::flat(&d).archive().unwrap();
+    let e = Archive::open(&bytes).unwrap().entries().next().unwrap();
+    assert_eq!(e.name(), c[0].name);
+    let printed = format!("{}", e.name());
+    assert_eq!(printed, "\\u{4}\\u{1b}NE 7");
+    assert!(!printed.contains(|c: char| c.is_control()));
+    assert_eq!(format!("[{:>16}]", e.name()), "[ \\u{4}\\u{1b}NE 7]");
 }
 
 // The longest files: a length of 65,535, and all of 256 sectors.

@@ -120,7 +120,7 @@ fn none_one_and_many() {
         assert_eq!(archive.len(), 256 * (1 + files));
         assert_eq!(along(&archive), files);
         let opened = Archive::open(&archive).unwrap();
-        let names: Vec<&str> = opened.entries().map(|e| e.name()).collect();
+        let names: Vec<String> = opened.entries().map(|e| e.name().to_string()).collect();
         let due: Vec<String> = (0..files).map(|f| format!("TEXT {f}")).collect();
         assert_eq!(names, due);
         assert!(opened

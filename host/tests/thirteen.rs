@@ -394,23 +394,14 @@ fn nibblize_is_1() {
 #[test]
 fn vtoc() {
     both(|d, _| {
+        let v = d.vtoc().unwrap();
+        assert_eq!((v.catalog, v.release, v.volume), (location(17, 12), 3, 254));
         assert_eq!(
-            d.vtoc().unwrap(),
-            Vtoc {
-                catalog: location(17, 12),
-                release: 3,
-                volume: 254,
-                pair_maximum: 122,
-                last_track: Track(18),
-                direction: -1,
-                tracks: 35,
-                sectors: 13,
-                sector_size: 256,
-                free: 13,
-                used: 442,
-                percent_used: 97,
-            }
+            (v.pair_maximum, v.last_track, v.direction),
+            (122, Track(18), -1)
         );
+        assert_eq!((v.tracks, v.sectors, v.sector_size), (35, 13, 256));
+        assert_eq!((v.free, v.used, v.percent_used), (13, 442, 97));
     });
 }
 
@@ -575,19 +566,11 @@ fn lists_and_pairs() {
 #[test]
 fn survey() {
     both(|d, _| {
-        assert_eq!(
-            d.survey().unwrap(),
-            Survey {
-                volume: 254,
-                entries: 3,
-                free: 13,
-                used: 442,
-                percent_used: 97,
-                archive_blocks: 1 + 3 + 3 + 1,
-                // Two pages, four lists.
-                links: 6,
-            }
-        );
+        let s = d.survey().unwrap();
+        assert_eq!((s.volume, s.entries), (254, 3));
+        assert_eq!((s.free, s.used, s.percent_used), (13, 442, 97));
+        // Two pages, four lists.
+        assert_eq!((s.archive_blocks, s.links), (1 + 3 + 3 + 1, 6));
     });
 }
 
