@@ -1,23 +1,27 @@
-// Makes the static library `host` with `rt`, and links it.
+// Makes the static library with `rt`, and links it as `dos33`.
 //
-// DOS33_LIB_DIR names a folder with a libhost.a that is made already; `rt` is not asked for then.
+// `rt staticlib host` names it after its crate, libhost.a; here it is libdos33.a.
+// DOS33_LIB_DIR names a folder with a library that is made already, under either name; `rt` is not asked for then.
 use std::env;
 use std::fs;
 use std::io::ErrorKind;
 use std::path::{Path, PathBuf};
 use std::process::{exit, Command};
 
+const OURS: &str = "libdos33.a";
+const MADE: &str = "libhost.a";
+
 fn stop(message: &str) -> ! {
     eprintln!("dos33: {message}");
     exit(1)
 }
 
-// The folder with the library, made by `rt staticlib host` in the repository's top folder.
+// The library, made by `rt staticlib host` in the repository's top folder.
 fn made(top: &Path) -> PathBuf {
     if !top.join("crates.txt").is_file() {
         stop(&format!(
             "{} has no crates.txt. This crate stands in the folder `host` of the repository, beside `crates`. \
-             Put it back there, or set DOS33_LIB_DIR to a folder with libhost.a.",
+             Put it back there, or set DOS33_LIB_DIR to a folder with {OURS} or {MADE}.",
             top.display()
         ));
     }
@@ -31,10 +35,10 @@ fn made(top: &Path) -> PathBuf {
         .current_dir(top)
         .output();
     match answer {
-        Err(e) if e.kind() == ErrorKind::NotFound => stop(
-            "the program `rt` of the Rattle kit is not on the PATH. It makes libhost.a (`rt staticlib host`). \
-             Install the kit, or set DOS33_LIB_DIR to a folder with libhost.a.",
-        ),
+        Err(e) if e.kind() == ErrorKind::NotFound => stop(&format!(
+            "the program `rt` of the Rattle kit is not on the PATH. It makes {MADE} (`rt staticlib host`). \
+             Install the kit, or set DOS33_LIB_DIR to a folder with {OURS} or {MADE}."
+        )),
         Err(e) => stop(&format!("`rt staticlib host` could not be started: {e}")),
         Ok(o) if !o.status.success() => stop(&format!(
             "`rt staticlib host` failed in {} ({}):\n{}{}",
@@ -43,7 +47,26 @@ fn made(top: &Path) -> PathBuf {
             String::from_utf8_lossy(&o.stdout),
             String::from_utf8_lossy(&o.stderr)
         )),
-        Ok(_) => top.join("target").join("staticlib"),
+        Ok(_) => top.join("target").join("staticlib").join(MADE),
+    }
+}
+
+// The library that is handed in; it is watched.
+fn handed(folder: &Path) -> PathBuf {
+    let library = [OURS, MADE]
+        .map(|name| folder.join(name))
+        .into_iter()
+        .find(|l| l.is_file());
+    match library {
+        Some(library) => {
+            println!("cargo:rerun-if-changed={}", library.display());
+            library
+        }
+        None => stop(&format!(
+            "{} (DOS33_LIB_DIR) has neither {OURS} nor {MADE}. \
+             `rt staticlib host` at the repository's top makes target/staticlib/{MADE}.",
+            folder.display()
+        )),
     }
 }
 
@@ -52,27 +75,18 @@ fn main() {
     println!("cargo:rerun-if-env-changed=DOS33_LIB_DIR");
     let here = PathBuf::from(env::var_os("CARGO_MANIFEST_DIR").unwrap_or_default());
     let out = PathBuf::from(env::var_os("OUT_DIR").unwrap_or_default());
-    // A library that is handed in is watched; one that is made here changes with its sources.
+    // One that is made here changes with its sources.
     let library = match env::var_os("DOS33_LIB_DIR").filter(|d| !d.is_empty()) {
-        Some(dir) => {
-            let library = PathBuf::from(dir).join("libhost.a");
-            println!("cargo:rerun-if-changed={}", library.display());
-            library
-        }
-        None => made(here.parent().unwrap_or(&here)).join("libhost.a"),
+        Some(folder) => handed(Path::new(&folder)),
+        None => made(here.parent().unwrap_or(&here)),
     };
     // A copy, so that emptying the repository's `target` takes nothing away from what cargo has built.
-    if let Err(e) = fs::copy(&library, out.join("libhost.a")) {
-        stop(&format!(
-            "{} cannot be read: {e}. `rt staticlib host` at the repository's top makes target/staticlib/libhost.a.",
-            library.display()
-        ));
+    let copy = out.join(OURS);
+    if let Err(e) = fs::copy(&library, &copy) {
+        stop(&format!("{} cannot be read: {e}", library.display()));
     }
     println!("cargo:rustc-link-search=native={}", out.display());
-    println!("cargo:rustc-link-lib=static=host");
+    println!("cargo:rustc-link-lib=static=dos33");
     // For the test that compiles a C program.
-    println!(
-        "cargo:rustc-env=DOS33_LIBRARY={}",
-        out.join("libhost.a").display()
-    );
+    println!("cargo:rustc-env=DOS33_LIBRARY={}", copy.display());
 }
