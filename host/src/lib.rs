@@ -62,7 +62,8 @@
 //! | slip, number | [`Refusal`], [`Refusal::number`] |
 //!
 //! Two costs to know. [`Archive::open`] and [`Archive::entry`] go as deep as the archive has blocks, so
-//! they want 512 KiB of stack; a step of [`Archive::entries`] looks at one block alone. And
+//! they want 512 KiB of stack; a step of [`Archive::entries`] looks at one block alone. [`denibblize`]
+//! and [`denibblize_13`], and so [`Disk::nibbles`] and [`Disk::nibbles_13`], want 160 KiB. And
 //! [`Disk::file`], [`Disk::fetch`] and [`Disk::lists`] judge every file of the disk at each call: for
 //! all files in one go there is [`Disk::files`].
 #![warn(missing_docs)]

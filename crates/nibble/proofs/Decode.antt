@@ -131,7 +131,7 @@ long-values t n r e = values-long t readOf (reads-at t e) 343 n r
 pub ruleset lengthened = (short-sum, long-sum, short-values, long-values, lengthens, length-padded, needs)
 
 -- ---- the returns of decode_sector
-sum-is : (n v : List ℕ) → v ≡ valuesOf n → getD v 342 0 ≡ valAt n 342
+pub sum-is : (n v : List ℕ) → v ≡ valuesOf n → getD v 342 0 ≡ valAt n 342
 unfolding valuesOf
 sum-is n v e = rw (e, getD-tab (valAt n) 343 342 0 (omega arith)) refl
 
@@ -161,7 +161,7 @@ data-is n v o₀ o e room f =
     let p : Put 0 (decode n) o₀ o = put-is-front 256 (unpacked n v o₀ o e f) l room in
     placed-fits 0 (decode n) o₀ o (omega arith) (rw l (omega arith)) (p .is)
 
-pub ruleset unpacks = (data-short, data-is, needs)
+pub ruleset unpacks = (data-short, data-is, sum-is, needs)
 
 pub done : (n v o₀ o : List ℕ) (h : Handed) → v ≡ valuesOf n → getD v 342 0 ≡ 0 → 256 ≤ length o₀ → o ≡ filled (byteFrom v) 256 o₀
     → h ≡ acceptedWith 256 → Hands (decoded n) o₀ o h

@@ -188,6 +188,10 @@ grouped-done v o₀ o i r w h q =
 pub ruleset grouped = (grouped-start, grouped-turn, grouped-fits, grouped-done, needs)
 
 -- ---- the returns of sector_data
+pub sum-is : (n v : List ℕ) → v ≡ valuesOf53 n → getD v 410 0 ≡ valAt53 n 410
+unfolding valuesOf53
+sum-is n v e = rw (e, getD-tab (valAt53 n) 411 410 0 (omega arith)) refl
+
 pub data-short : (n o : List ℕ) → length o < 256 → o ≡ placed 0 (decode53 n) o
 data-short n o l = placed-short 0 (decode53 n) o (omega arith) (rw (length-decode53 n) (omega arith))
 
@@ -198,4 +202,4 @@ data-is n v o₀ o e room f =
     let d : o ≡ decode53 n ++ drop 256 o₀ = f ∙ rw e refl in
     placed-fits 0 (decode53 n) o₀ o (omega arith) (rw l (omega arith)) (put-is-front 256 d l room .is)
 
-pub ruleset unpacks = (data-short, data-is, needs)
+pub ruleset unpacks = (data-short, data-is, sum-is, needs)

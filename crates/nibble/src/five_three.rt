@@ -2,7 +2,7 @@
 ghost use mathlib.Core.Path.{_≡_};
 ghost use Prim.Native.Nat.{_+_, _*_, _%_, _≤_, _<_};
 ghost use lib.ListN.{length};
-ghost use Rattle.lists.specs.Fill.{tab, filled, padded, placed};
+ghost use Rattle.lists.specs.Fill.{filled, padded, placed};
 ghost use Rattle.nibble.specs.FiveThree.{valAt53, valuesOf53, threeOf, byteFrom53, decode53};
 use crate::running::put_values;
 use crate::running::sum_with;
@@ -118,13 +118,15 @@ fn put_bytes(vals: &[u8; 411], out: &mut [u8])
     out[255] = joined(vals[409], vals[0] % 8);
 }
 
-// Puts the 256 bytes of a sector to the front of out, whatever the sum is; where they do not fit, out stays as it is. Past the end of the nibbles zeros are read.
-pub fn sector_data(nibbles: &[u8], out: &mut [u8])
-    ensures { λ _. ⌜ now (out .exit) ≡ placed 0 (decode53 (now (nibbles .entry))) (now (out .entry)) ⌝ }
+// Puts the 256 bytes of a sector to the front of out, whatever the sum is; where they do not fit, out stays as it is. The answer is that of `data_sum`. Past the end of the nibbles zeros are read.
+pub fn sector_data(nibbles: &[u8], out: &mut [u8]) -> u8
+    ensures bytes { λ _. ⌜ now (out .exit) ≡ placed 0 (decode53 (now (nibbles .entry))) (now (out .entry)) ⌝ }
+    ensures sum { λ r. ⌜ r ≡ valAt53 (now (nibbles .entry)) 410 ⌝ }
 {
-    if out.len() < 256 {
-        return;
-    }
     let vals = values_of(nibbles);
+    if out.len() < 256 {
+        return vals[410];
+    }
     put_bytes(&vals, out);
+    vals[410]
 }

@@ -207,15 +207,17 @@ fn put_bytes(vals: &[u8; 343], out: &mut [u8])
     }
 }
 
-// Puts the 256 bytes of a sector to the front of out, whatever the sum is; where they do not fit, out stays as it is. Past the end of the nibbles zeros are read.
-pub fn sector_data(nibbles: &[u8], out: &mut [u8])
-    ensures { λ _. ⌜ now (out .exit) ≡ placed 0 (decode (now (nibbles .entry))) (now (out .entry)) ⌝ }
+// Puts the 256 bytes of a sector to the front of out, whatever the sum is; where they do not fit, out stays as it is. The answer is that of `data_sum`. Past the end of the nibbles zeros are read.
+pub fn sector_data(nibbles: &[u8], out: &mut [u8]) -> u8
+    ensures bytes { λ _. ⌜ now (out .exit) ≡ placed 0 (decode (now (nibbles .entry))) (now (out .entry)) ⌝ }
+    ensures sum { λ r. ⌜ r ≡ valAt (now (nibbles .entry)) 342 ⌝ }
 {
-    if out.len() < 256 {
-        return;
-    }
     let vals = values_of(nibbles);
+    if out.len() < 256 {
+        return vals[342];
+    }
     put_bytes(&vals, out);
+    vals[342]
 }
 
 // The 256 bytes of a sector (in the Rust transform_data_field); refusals 9, 12. Past the end of the slice zeros are read.
