@@ -27,7 +27,8 @@
  *
  * Costs:
  *   - Stack: dos33_archive_open and dos33_archive_entry go as deep as the archive has blocks. Under
- *     352 KiB were measured for 4,096 blocks, and under 48 KiB for every other function.
+ *     352 KiB were measured for 4,096 blocks. dos33_denibblize and dos33_denibblize_13 decode into a
+ *     disk of their own: under 160 KiB. Under 48 KiB were measured for every other function.
  *   - Time: dos33_archive_entry goes through all of the archive, dos33_archive_step looks at one
  *     block. dos33_file, dos33_fetch and dos33_lists judge every file of the disk; for all files at
  *     once: dos33_archive_write, dos33_archive_open, then dos33_archive_step entry by entry.

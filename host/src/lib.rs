@@ -62,7 +62,8 @@
 //! | slip, number | [`Refusal`], [`Refusal::number`] |
 //!
 //! Costs to know. [`Archive::open`] and [`Archive::entry`] go as deep as the archive has blocks, so
-//! they want 512 KiB of stack; a step of [`Archive::entries`] looks at one block alone.
+//! they want 512 KiB of stack; a step of [`Archive::entries`] looks at one block alone. [`denibblize`]
+//! and [`denibblize_13`], and so [`Disk::nibbles`] and [`Disk::nibbles_13`], want 160 KiB.
 //! [`Disk::file`], [`Disk::fetch`] and [`Disk::lists`] judge every file of the disk at each call: for
 //! all files in one go there is [`Disk::files`], but where the archive would have over 4,096 blocks, which
 //! it refuses as [`Refusal::Overlong`]. [`stream_sector`] and [`stream_sector_13`] may take a time that

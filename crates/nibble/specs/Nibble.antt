@@ -96,6 +96,11 @@ decode n = tab (byteFrom (valuesOf n)) 256
 unfoldable pub decoded : List ℕ → Outcome (List ℕ)
 decoded n = require (eqb (valAt n 342) 0) DataSum >> given (decode n)
 
+-- ---- what the steps of the decoder's code promise each other
+-- value k of the values v with the two bits of each of its three pairs swapped
+unfoldable pub pairsAt : List ℕ → ℕ → ℕ
+pairsAt v k = low (getD v k 0) + low (getD v k 0 / 4) * 4 + low (getD v k 0 / 16) * 16
+
 -- ---- what the steps of the encoder's code promise each other
 -- v holds the 86 values of the low bits of the sector d; each has six bits
 pub record LowsOf (d v : List ℕ) : Type 0 where

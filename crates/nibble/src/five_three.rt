@@ -2,8 +2,8 @@
 ghost use mathlib.Core.Path.{_≡_};
 ghost use Prim.Native.Nat.{_+_, _*_, _%_, _≤_, _<_};
 ghost use lib.ListN.{length};
-ghost use Rattle.lists.specs.Fill.{tab, padded, placed};
-ghost use Rattle.nibble.specs.FiveThree.{valAt53, valuesOf53, threeOf, lowOf, byteOf53, decode53};
+ghost use Rattle.lists.specs.Fill.{filled, padded, placed};
+ghost use Rattle.nibble.specs.FiveThree.{valAt53, valuesOf53, threeOf, byteFrom53, decode53};
 use crate::running::put_values;
 use crate::running::sum_with;
 use crate::tables::reading_5_and_3;
@@ -68,70 +68,65 @@ fn bits_1(a: u8, b: u8, c: u8) -> u8
     a / 2 % 2 * 4 + b / 2 % 2 * 2 + c / 2 % 2
 }
 
-// The low bits of a byte whose high ones are value j of the second part: of the first three of five, ..
-fn low_of_three(vals: &[u8; 411], j: usize) -> u8
-    requires { ⌜ j < 153 ⌝ }
-    ensures { λ r. ⌜ (r ≡ lowOf (now (vals .entry)) j) × (r < 8) ⌝ }
+// Byte r of the five that begin at 5 i, where k is 50 - i: of the first three, ..
+fn of_three(vals: &[u8; 411], i: usize, r: usize) -> u8
+    requires { ⌜ (i < 51) × (r < 3) ⌝ }
+    ensures { λ b. ⌜ b ≡ byteFrom53 (now (vals .entry)) (5 * i + r) ⌝ }
 {
-    vals[153 - j] / 4 % 8
+    let j = 50 - i + 51 * r;
+    joined(vals[154 + j], vals[153 - j] / 4 % 8)
 }
 
-// .. of the fourth ..
-fn low_of_fourth(vals: &[u8; 411], j: usize) -> u8
-    requires { ⌜ (153 ≤ j) × (j < 204) ⌝ }
-    ensures { λ r. ⌜ (r ≡ lowOf (now (vals .entry)) j) × (r < 8) ⌝ }
+// .. the fourth ..
+fn fourth(vals: &[u8; 411], i: usize) -> u8
+    requires { ⌜ i < 51 ⌝ }
+    ensures { λ b. ⌜ b ≡ byteFrom53 (now (vals .entry)) (5 * i + 3) ⌝ }
 {
-    bits_1(vals[306 - j], vals[255 - j], vals[204 - j])
+    let k = 50 - i;
+    joined(
+        vals[154 + (k + 153)],
+        bits_1(vals[153 - k], vals[153 - (k + 51)], vals[153 - (k + 102)]),
+    )
 }
 
-// .. and of the fifth.
-fn low_of_fifth(vals: &[u8; 411], j: usize) -> u8
-    requires { ⌜ (204 ≤ j) × (j < 255) ⌝ }
-    ensures { λ r. ⌜ (r ≡ lowOf (now (vals .entry)) j) × (r < 8) ⌝ }
+// .. and the fifth.
+fn fifth(vals: &[u8; 411], i: usize) -> u8
+    requires { ⌜ i < 51 ⌝ }
+    ensures { λ b. ⌜ b ≡ byteFrom53 (now (vals .entry)) (5 * i + 4) ⌝ }
 {
-    bits_0(vals[357 - j], vals[306 - j], vals[255 - j])
+    let k = 50 - i;
+    joined(
+        vals[154 + (k + 204)],
+        bits_0(vals[153 - k], vals[153 - (k + 51)], vals[153 - (k + 102)]),
+    )
 }
 
-// The bytes in the order of their high bits: a loop for each range of places.
-fn bytes_of(vals: &[u8; 411]) -> [u8; 256]
-    ensures { λ r. ⌜ r ≡ tab (byteOf53 (now (vals .entry))) 256 ⌝ }
+// The 256 bytes of a sector's values, five by five.
+fn put_bytes(vals: &[u8; 411], out: &mut [u8])
+    requires { ⌜ 256 ≤ length (now out) ⌝ }
+    ensures { λ _. ⌜ now (out .exit) ≡ filled (byteFrom53 (now (vals .entry))) 256 (now (out .entry)) ⌝ }
 {
-    let mut bytes = [0u8; 256];
-    let mut j: usize = 0;
-    while j < 153 {
-        bytes[j] = joined(vals[154 + j], low_of_three(vals, j));
-        j += 1;
-    }
-    while j < 204 {
-        bytes[j] = joined(vals[154 + j], low_of_fourth(vals, j));
-        j += 1;
-    }
-    while j < 255 {
-        bytes[j] = joined(vals[154 + j], low_of_fifth(vals, j));
-        j += 1;
-    }
-    bytes[j] = joined(vals[154 + j], vals[0] % 8);
-    bytes
-}
-
-// Puts the 256 bytes of a sector to the front of out, whatever the sum is; where they do not fit, out stays as it is. Past the end of the nibbles zeros are read.
-pub fn sector_data(nibbles: &[u8], out: &mut [u8])
-    ensures { λ _. ⌜ now (out .exit) ≡ placed 0 (decode53 (now (nibbles .entry))) (now (out .entry)) ⌝ }
-{
-    if out.len() < 256 {
-        return;
-    }
-    let vals = values_of(nibbles);
-    let bytes = bytes_of(&vals);
     let mut i: usize = 0;
     while i < 51 {
-        let k = 50 - i;
-        out[5 * i] = bytes[k];
-        out[5 * i + 1] = bytes[k + 51];
-        out[5 * i + 2] = bytes[k + 102];
-        out[5 * i + 3] = bytes[k + 153];
-        out[5 * i + 4] = bytes[k + 204];
+        out[5 * i] = of_three(vals, i, 0);
+        out[5 * i + 1] = of_three(vals, i, 1);
+        out[5 * i + 2] = of_three(vals, i, 2);
+        out[5 * i + 3] = fourth(vals, i);
+        out[5 * i + 4] = fifth(vals, i);
         i += 1;
     }
-    out[255] = bytes[255];
+    out[255] = joined(vals[409], vals[0] % 8);
+}
+
+// Puts the 256 bytes of a sector to the front of out, whatever the sum is; where they do not fit, out stays as it is. The answer is that of `data_sum`. Past the end of the nibbles zeros are read.
+pub fn sector_data(nibbles: &[u8], out: &mut [u8]) -> u8
+    ensures bytes { λ _. ⌜ now (out .exit) ≡ placed 0 (decode53 (now (nibbles .entry))) (now (out .entry)) ⌝ }
+    ensures sum { λ r. ⌜ r ≡ valAt53 (now (nibbles .entry)) 410 ⌝ }
+{
+    let vals = values_of(nibbles);
+    if out.len() < 256 {
+        return vals[410];
+    }
+    put_bytes(&vals, out);
+    vals[410]
 }

@@ -10,7 +10,7 @@ ghost use lib.ListN.{length};
 ghost use Rattle.lists.specs.Fill.{tab, filled, padded, placed};
 ghost use Rattle.outcome.specs.Outcome.{Hands};
 ghost use Rattle.nibble.specs.Running.{runAt, looked};
-ghost use Rattle.nibble.specs.Nibble.{of44, four, writes, reads, writeOf, readOf, low, valAt, valuesOf, byteFrom, encoded, decode, decoded, LowsOf, StepsOf};
+ghost use Rattle.nibble.specs.Nibble.{of44, four, writes, reads, writeOf, readOf, low, valAt, valuesOf, pairsAt, byteFrom, encoded, decode, decoded, LowsOf, StepsOf};
 use lists::copy_at;
 use outcome::DATA_SUM;
 use outcome::Handed;
@@ -43,13 +43,6 @@ fn write(table: &[u8; 64], v: u8) -> u8
     ensures { λ r. ⌜ r ≡ writeOf v ⌝ }
 {
     table[v as usize]
-}
-
-// The two low bits, swapped.
-fn low2(b: u8) -> u8
-    ensures { λ r. ⌜ r ≡ low b ⌝ }
-{
-    b % 2 * 2 + b / 2 % 2
 }
 
 // Bits 0, 2 and 4.
@@ -172,11 +165,25 @@ fn values_of(nibbles: &[u8]) -> [u8; 343]
     vals
 }
 
+// The low bits of three bytes in each of the first 86 values, the two bits of each pair swapped.
+fn pairs_of(vals: &[u8; 343]) -> [u8; 86]
+    ensures { λ r. ⌜ r ≡ tab (pairsAt (now (vals .entry))) 86 ⌝ }
+{
+    let mut pairs = [0u8; 86];
+    let mut k: usize = 0;
+    while k < 86 {
+        let v = vals[k];
+        pairs[k] = low6(v, v / 4, v / 16);
+        k += 1;
+    }
+    pairs
+}
+
 // A byte of its high bits and the two low bits of l.
 fn byte(h: u8, l: u8) -> u8
-    ensures { λ r. ⌜ r ≡ h % 64 * 4 + low l ⌝ }
+    ensures { λ r. ⌜ r ≡ h % 64 * 4 + l % 4 ⌝ }
 {
-    h % 64 * 4 + low2(l)
+    h % 64 * 4 + l % 4
 }
 
 // The 256 bytes of a sector's values: a loop for each range of places.
@@ -184,30 +191,33 @@ fn put_bytes(vals: &[u8; 343], out: &mut [u8])
     requires { ⌜ 256 ≤ length (now out) ⌝ }
     ensures { λ _. ⌜ now (out .exit) ≡ filled (byteFrom (now (vals .entry))) 256 (now (out .entry)) ⌝ }
 {
+    let pairs = pairs_of(vals);
     let mut i: usize = 0;
     while i < 86 {
-        out[i] = byte(vals[i + 86], vals[i]);
+        out[i] = byte(vals[i + 86], pairs[i]);
         i += 1;
     }
     while i < 172 {
-        out[i] = byte(vals[i + 86], vals[i - 86] / 4);
+        out[i] = byte(vals[i + 86], pairs[i - 86] / 4);
         i += 1;
     }
     while i < 256 {
-        out[i] = byte(vals[i + 86], vals[i - 172] / 16);
+        out[i] = byte(vals[i + 86], pairs[i - 172] / 16);
         i += 1;
     }
 }
 
-// Puts the 256 bytes of a sector to the front of out, whatever the sum is; where they do not fit, out stays as it is. Past the end of the nibbles zeros are read.
-pub fn sector_data(nibbles: &[u8], out: &mut [u8])
-    ensures { λ _. ⌜ now (out .exit) ≡ placed 0 (decode (now (nibbles .entry))) (now (out .entry)) ⌝ }
+// Puts the 256 bytes of a sector to the front of out, whatever the sum is; where they do not fit, out stays as it is. The answer is that of `data_sum`. Past the end of the nibbles zeros are read.
+pub fn sector_data(nibbles: &[u8], out: &mut [u8]) -> u8
+    ensures bytes { λ _. ⌜ now (out .exit) ≡ placed 0 (decode (now (nibbles .entry))) (now (out .entry)) ⌝ }
+    ensures sum { λ r. ⌜ r ≡ valAt (now (nibbles .entry)) 342 ⌝ }
 {
-    if out.len() < 256 {
-        return;
-    }
     let vals = values_of(nibbles);
+    if out.len() < 256 {
+        return vals[342];
+    }
     put_bytes(&vals, out);
+    vals[342]
 }
 
 // The 256 bytes of a sector (in the Rust transform_data_field); refusals 9, 12. Past the end of the slice zeros are read.

@@ -1,4 +1,4 @@
--- `address_refusal`, `is_stranger`, `sum_counts`, `complete`, `places_of`, `stranger_met`, `survey`, `put_image` and `denibblize` over plain variables.
+-- `address_refusal`, `is_stranger`, `decode_first`, `complete`, `number_of`, `stranger_met`, `collect` and `denibblize` over plain variables.
 -- Assumes nothing.
 use mathlib.Core.Path.{_≡_, refl, sym, ap, _∙_}
 use mathlib.Core.Bool.{Bool, true, false, cond, not, _&&_, _||_}
@@ -12,13 +12,12 @@ use borrow.Author.Needs.{needs}
 use borrow.Author.Tests.{eq-eqb, ne-eqb, lt-ltb, le-ltb, eqb-true, ltb-false}
 use lib.Dec.{eqb, ltb}
 use lib.ListN.{length, getD, set, take, drop, replicate, length-set, length-replicate, getD-replicate}
-use lib.Seq.{getD-set-same, getD-set-other}
-use Rattle.lists.specs.Fill.{tab, below, cats, put}
+use lib.Seq.{getD-set-same, getD-set-other, length-take-le, take-take}
+use Rattle.lists.specs.Fill.{tab, below, put, placed}
 use Rattle.lists.specs.Select.{all, any}
-use Rattle.lists.proofs.Blocks.{Blocks, blocks-none, blocks-step, blocks-done, length-cats}
-use Rattle.lists.proofs.Chunks.{chunk-cats}
-use Rattle.lists.proofs.Put.{put-is, put-front}
-use Rattle.lists.proofs.Split.{by-lt, by-test, both-true, clash}
+use Rattle.lists.proofs.Cuts.{drop-take}
+use Rattle.lists.proofs.Put.{put-is, put-front, placed-put}
+use Rattle.lists.proofs.Split.{by-lt, by-test, both-true, clash, and-true, and-false}
 use Rattle.outcome.specs.declared.Handed.{Handed}
 use Rattle.outcome.specs.declared.Refusal.the-variants.{AddressSum, DataSum, Absent, Stranger}
 use Rattle.outcome.specs.Outcome.{Outcome, refused, given, _>>=_, _>>_, require, each, number, refusedWith, acceptedWith, Hands}
@@ -31,13 +30,11 @@ use Rattle.fields.specs.Scan.{pairFrom, fieldsFrom, fieldOf, Run}
 use Rattle.fields.proofs.Numbers.{per-some, per-small, number-track, number-sector, number-whole, number-below, dos-lt, same-sector}
 use Rattle.fields.proofs.Fields.{pair-bad, pair-end, pair-more, pair-fits, pair-less, run-more, run-from, run-all, run-bad, from-start}
 use Rattle.stream.specs.Stream.{sameKey, firsts, sumsOk, isStranger, firstVolume, bytesAt, image}
-use Rattle.stream.specs.Steps.{sectorAt, firstPlace, strange, numberOf, sumCounts, heldAt, Complete, Within, Decides, Meets, Surveys}
+use Rattle.stream.specs.Steps.{sectorAt, firstPlace, strange, numberOf, sumCounts, heldIn, Complete, Decides, Meets, Collects}
 use Rattle.stream.specs.Steps
-use Rattle.stream.specs.declared.Places.{Places}
 use Rattle.stream.proofs.Firsts.{or-none, any-met, any-none, any-agree, any-place, bytesAt-is, sector-none, sector-some, first-turn, sums-turn}
-use Rattle.stream.proofs.Keyed.{place-within}
 use Rattle.stream.proofs.Sizes.{length-data}
-use Rattle.stream.proofs.Joins.{each-joins}
+use Rattle.stream.proofs.Joins.{each-joins, put-here, put-before, put-behind}
 
 -- ---- address_refusal
 pub record Ahead (ed : Edition) (s : List ℕ) (i k : ℕ) : Type 0 where
@@ -73,18 +70,26 @@ module _ (ed : Edition) (v : ℕ) (p : FieldPair) where
 
 pub ruleset strangers = (strange-volume, strange-track, strange-sector, needs)
 
--- ---- sum_counts
-module _ (ed : Edition) (s : List ℕ) (p : FieldPair) (old : ℕ) (good : Bool) where
-  pub counts-bad : good ≡ false → false ≡ sumCounts ed s p old good
-  counts-bad g = rw g refl
+-- ---- decode_first
+module _ (ed : Edition) (s : List ℕ) (p : FieldPair) (old at : ℕ) (good : Bool) where
+  pub first-again : (d : List ℕ) → (old ≡ 0 → ⊥) → d ≡ heldIn ed s p old at d
+  unfolding heldIn
+  first-again d n = rw (ne-eqb old 0 n) refl
 
-  pub counts-not : good ≡ true → (old ≡ 0 → ⊥) → true ≡ sumCounts ed s p old good
-  counts-not g n = rw (g, ne-eqb old 0 n) refl
+  pub first-put : (d o : List ℕ) → old ≡ 0 → o ≡ put at (dataOf ed (take (nibblesOf ed) (drop (p .nibbles) s))) d → o ≡ heldIn ed s p old at d
+  unfolding heldIn
+  first-put d o z q = rw (eq-eqb old 0 z) q
 
-  pub counts : (r : ℕ) → good ≡ true → old ≡ 0 → r ≡ sumOf ed (take (nibblesOf ed) (drop (p .nibbles) s)) → eqb r 0 ≡ sumCounts ed s p old good
-  counts r g z q = rw (g, eq-eqb old 0 z, q) refl
+  pub counts-not : (old ≡ 0 → ⊥) → good ≡ sumCounts ed s p old good
+  counts-not n = rw (ne-eqb old 0 n) (sym (and-true good))
 
-pub ruleset counted = (counts-bad, counts-not, counts, needs)
+  pub counts-wrong : (r : ℕ) → old ≡ 0 → r ≡ sumOf ed (take (nibblesOf ed) (drop (p .nibbles) s)) → (r ≡ 0 → ⊥) → false ≡ sumCounts ed s p old good
+  counts-wrong r z q n = rw (eq-eqb old 0 z, ← q, ne-eqb r 0 n) (sym (and-false good))
+
+  pub counts-right : (r : ℕ) → old ≡ 0 → r ≡ sumOf ed (take (nibblesOf ed) (drop (p .nibbles) s)) → r ≡ 0 → good ≡ sumCounts ed s p old good
+  counts-right r z q e = rw (eq-eqb old 0 z, ← q, eq-eqb r 0 e) (sym (and-true good))
+
+pub ruleset counted = (first-again, first-put, counts-not, counts-wrong, counts-right, needs)
 
 -- ---- complete
 pub record Having (at : List ℕ) (k : ℕ) : Type 0 where
@@ -105,29 +110,29 @@ module _ (ed : Edition) (at : List ℕ) (k : ℕ) where
 
 pub ruleset having = (having-start, having-turn, having-not, having-all, needs)
 
--- ---- places_of and stranger_met
+-- ---- number_of and stranger_met
 module _ (ed : Edition) (good : Bool) (at : List ℕ) where
-  pub decide-sum : good ≡ false → Decides ed good at (record { refusal = 9; at = at })
+  pub decide-sum : good ≡ false → Decides ed good at 9
   decide-sum g = Steps.sum g refl
 
-  pub decide-absent : (b : Bool) → good ≡ true → Complete ed at b → b ≡ false → Decides ed good at (record { refusal = 10; at = at })
+  pub decide-absent : (b : Bool) → good ≡ true → Complete ed at b → b ≡ false → Decides ed good at 10
   decide-absent b g (Steps.yes t h) f = absurd (clash (sym f ∙ t))
   decide-absent b g (Steps.no t k h z) f = Steps.absent g refl k h z
 
-  pub decide-all : (b : Bool) → good ≡ true → Complete ed at b → b ≡ true → Decides ed good at (record { refusal = 0; at = at })
+  pub decide-all : (b : Bool) → good ≡ true → Complete ed at b → b ≡ true → Decides ed good at 0
   decide-all b g (Steps.yes t h) f = Steps.all g refl h
   decide-all b g (Steps.no t k h z) f = absurd (clash (sym t ∙ f))
 
-module _ (ed : Edition) (s : List ℕ) (i n : ℕ) (at : List ℕ) (e : n ≡ number (fieldsFrom ed s i)) where
-  pub meet-stranger : n ≡ 0 → Meets ed s i (record { refusal = 11; at = at })
+module _ (ed : Edition) (s : List ℕ) (i n : ℕ) (e : n ≡ number (fieldsFrom ed s i)) where
+  pub meet-stranger : n ≡ 0 → Meets ed s i 11
   meet-stranger z = Steps.stranger refl (sym e ∙ z)
 
-  pub meet-address : (n ≡ 0 → ⊥) → Meets ed s i (record { refusal = n; at = at })
+  pub meet-address : (n ≡ 0 → ⊥) → Meets ed s i n
   meet-address z = Steps.address e z
 
 pub ruleset decided = (decide-sum, decide-absent, decide-all, meet-stranger, meet-address, needs)
 
--- ---- survey
+-- ---- collect
 eqb-swap : (a b : ℕ) → eqb a b ≡ eqb b a
 eqb-swap a b = by-test (eqb a b) (λ t. t ∙ sym (eq-eqb b a (sym (eqb-true a b t)))) (λ t. t ∙ sym (ne-eqb b a (λ u. clash (sym t ∙ eq-eqb a b (sym u)))))
 
@@ -154,8 +159,8 @@ key-agrees ed v f g e q =
       same-sector ed (f .sector) (g .sector) (a .2) (b .2),
     ) refl
 
--- the pairs up to place i are met, and none is a stranger
-pub record Surveying (ed : Edition) (s : List ℕ) (v i : ℕ) (good : Bool) (at : List ℕ) : Type 0 where
+-- the pairs up to place i are met, and none is a stranger; d₀ is the space as it was lent, d has the sectors that are met
+pub record Collecting (ed : Edition) (s : List ℕ) (v i : ℕ) (good : Bool) (at d₀ d : List ℕ) : Type 0 where
   pub met : List Field
   pub run : Run ed s 0 i met
   pub volume : v ≡ pairFrom ed s 0 .volume
@@ -163,11 +168,14 @@ pub record Surveying (ed : Edition) (s : List ℕ) (v i : ℕ) (good : Bool) (at
   pub sums : good ≡ sumsOk ed (firsts [] met)
   pub long : length at ≡ 560
   pub placed-at : (k : ℕ) → k < 35 * perTrack ed → sectorAt ed s (getD at k 0) ≡ bytesAt ed (k / perTrack ed) (k % perTrack ed) met
-  pub inside : (k : ℕ) → k < 35 * perTrack ed → (getD at k 0 ≡ 0 → ⊥) → getD at k 0 + (nibblesOf ed + 3) ≤ length s
+  pub size : length d ≡ length d₀
+  pub room : 256 * (35 * perTrack ed) ≤ length d₀
+  pub held : (k : ℕ) → k < 35 * perTrack ed → (getD at k 0 ≡ 0 → ⊥) → take 256 (drop (256 * k) d) ≡ dataOf ed (take (nibblesOf ed) (drop (getD at k 0) s))
 
-pub surveying-start : (ed : Edition) (s at : List ℕ) (f : FieldPair) → f ≡ pairFrom ed s 0 → at ≡ replicate 560 0 → Surveying ed s (f .volume) 0 true at
+pub collecting-start : (ed : Edition) (s at d : List ℕ) (f : FieldPair) → f ≡ pairFrom ed s 0 → at ≡ replicate 560 0 → 256 * (35 * perTrack ed) ≤ length d
+    → Collecting ed s (f .volume) 0 true at d d
 unfolding bytesAt firsts all any
-surveying-start ed s at f e z =
+collecting-start ed s at d f e z l =
     let n : (k : ℕ) → k < 35 * perTrack ed → getD at k 0 ≡ 0 = λ k h. rw z (getD-replicate {A = ℕ} 560 k 0 0 (omega (arith, per-small ed))) in
     record {
       met = [];
@@ -177,7 +185,9 @@ surveying-start ed s at f e z =
       sums = refl;
       long = rw z (length-replicate {A = ℕ} 560 0);
       placed-at = λ k h. sector-none ed s (getD at k 0) (eq-eqb _ 0 (n k h));
-      inside = λ k h u. absurd (u (n k h));
+      size = refl;
+      room = l;
+      held = λ k h u. absurd (u (n k h));
     }
 
 -- the volume of all fields is that of the first pair
@@ -190,12 +200,12 @@ first-volume ed s e (x ∷ xs) ys f r q = sym (ap (λ (x : Field). x .volume) (r
 first-old : (a m : ℕ) → firstPlace a false m ≡ a
 first-old a m = by-test (eqb a 0) (λ t. rw t (sym (eqb-true a 0 t))) (λ t. rw t refl)
 
-module _ (ed : Edition) (s : List ℕ) (v i : ℕ) (good : Bool) (at : List ℕ) (w : Surveying ed s v i good at) (p : FieldPair) (e : p ≡ pairFrom ed s i) where
-  pub survey-bad : (p .refusal ≡ 0 → ⊥) → Surveys ed s (record { refusal = 8; at = at })
+module _ (ed : Edition) (s : List ℕ) (v i : ℕ) (good : Bool) (at d₀ d : List ℕ) (w : Collecting ed s v i good at d₀ d) (p : FieldPair) (e : p ≡ pairFrom ed s i) where
+  pub collect-bad : (p .refusal ≡ 0 → ⊥) → Collects ed s d 8
   unfolding image
-  survey-bad h =
+  collect-bad h =
       let o : image ed s ≡ refused AddressSum = rw (run-bad ed s i (w .met) (w .run) (pair-bad ed s i p e h .1)) refl in
-      record { number-is = rw o refl; image-is = λ z. absurd (omega arith); fits = λ z. absurd (omega arith) }
+      record { number-is = rw o refl; image-is = λ z. absurd (omega arith) }
 
   module _ (n : p .next ≡ 0 → ⊥) (b : Bool) (q : b ≡ strange ed v p) where
     -- all fields, where the rest of them is given
@@ -222,14 +232,14 @@ module _ (ed : Edition) (s : List ℕ) (v i : ℕ) (good : Bool) (at : List ℕ)
         rw a refl
 
     -- what stands behind the pair decides between 8 and 11
-    pub survey-stranger : (r : Places) → b ≡ true → Meets ed s (p .next) r → Surveys ed s r
-    survey-stranger r t (Steps.stranger z y) =
+    pub collect-stranger : (r : ℕ) → b ≡ true → Meets ed s (p .next) r → Collects ed s d r
+    collect-stranger r t (Steps.stranger z y) =
         let g = number-0 (fieldsFrom ed s (p .next)) y in
         let o : image ed s ≡ refused Stranger = met-strange (g .0) t (g .1) in
-        record { number-is = z ∙ rw o refl; image-is = λ k. absurd (omega arith); fits = λ k. absurd (omega arith) }
-    survey-stranger r t (Steps.address z y) =
+        record { number-is = z ∙ rw o refl; image-is = λ k. absurd (omega arith) }
+    collect-stranger r t (Steps.address z y) =
         let o : number (image ed s) ≡ number (fieldsFrom ed s (p .next)) = met-refused (fieldsFrom ed s (p .next)) refl (λ k. y (z ∙ k)) in
-        record { number-is = z ∙ sym o; image-is = λ k. absurd (y k); fits = λ k. absurd (y k) }
+        record { number-is = z ∙ sym o; image-is = λ k. absurd (y k) }
 
     module _ (t : b ≡ false) (k : ℕ) (ek : k ≡ numberOf ed p) where
       pub number-lt : k < 35 * perTrack ed
@@ -240,6 +250,12 @@ module _ (ed : Edition) (s : List ℕ) (v i : ℕ) (good : Bool) (at : List ℕ)
 
       pub number-fits : Fits w64 (k * 8)
       number-fits = record { fits = omega (arith, number-lt, per-small ed) }
+
+      pub number-times : Fits w64 (256 * k)
+      number-times = record { fits = omega (arith, number-lt, per-small ed) }
+
+      pub number-room : 256 * k + 256 ≤ length d
+      number-room = omega (arith, number-lt, w .size, w .room)
 
       -- track and DOS sector of the number
       number-parts : (k / perTrack ed ≡ p .track) × (k % perTrack ed ≡ dosSector ed (p .sector))
@@ -272,15 +288,54 @@ module _ (ed : Edition) (s : List ℕ) (v i : ℕ) (good : Bool) (at : List ℕ)
           any-agree (sameKey f) (wants k) (isStranger ed v) (λ g h. key-agrees ed v f g (sym q ∙ t) h ∙ rw (← a .0, ← a .1) refl) (w .met) (w .known-all)
           ∙ any-place ed (wants k) s (getD at k 0) (w .met) (w .placed-at k number-lt ∙ bytesAt-is ed (k / perTrack ed) (k % perTrack ed) (w .met))
 
-      pub surveying-turn : (g : Bool) (a : ℕ) → g ≡ sumCounts ed s p (getD at k 0) good → a ≡ firstPlace (getD at k 0) true (p .nibbles)
-          → Surveying ed s v (p .next) g (set at k a)
-      surveying-turn g a eg ea =
+      -- the bytes of sector j, when those of p are put in at sector k
+      held-turn : (a : ℕ) (o : List ℕ) → a ≡ firstPlace (getD at k 0) true (p .nibbles) → o ≡ heldIn ed s p (getD at k 0) (256 * k) d
+          → (length o ≡ length d) × ((j : ℕ) → j < 35 * perTrack ed → (getD (set at k a) j 0 ≡ 0 → ⊥) → take 256 (drop (256 * j) o) ≡ dataOf ed (take (nibblesOf ed) (drop (getD (set at k a) j 0) s)))
+      unfolding heldIn
+      held-turn a o ea q =
+          let hk : k < length at = omega (arith, number-lt, w .long, per-small ed) in
+          by-test (eqb (getD at k 0) 0)
+          (λ z.
+          let x : List ℕ = dataOf ed (take (nibblesOf ed) (drop (p .nibbles) s)) in
+          let lx : length x ≡ 256 = length-data ed (take (nibblesOf ed) (drop (p .nibbles) s)) in
+          let e₁ : a ≡ p .nibbles = ea ∙ rw z refl in
+          let e₂ : o ≡ put (256 * k) x d = q ∙ rw z refl in (
+            put-is {at = 256 * k} {x = x} {d = d} e₂ (omega (arith, number-room)) .long,
+            λ j h u. by-test (eqb j k)
+                (λ y. let f : j ≡ k = eqb-true j k y in rw (f, getD-set-same at k a 0 hk, e₁, e₂) (put-here (256 * k) 256 x d lx number-room))
+                (λ y.
+                let f : j ≡ k → ⊥ = λ r. clash (sym y ∙ eq-eqb j k r) in
+                let g : getD (set at k a) j 0 ≡ getD at j 0 = getD-set-other at k j a 0 f in
+                let m : take 256 (drop (256 * j) (put (256 * k) x d)) ≡ take 256 (drop (256 * j) d) =
+                by-lt j k (λ l. put-before (256 * k) 256 x d lx number-room (256 * j) (omega arith))
+                (λ l. by-lt k j (λ m. put-behind (256 * k) 256 x d lx number-room (256 * j) (omega arith)) (λ m. absurd (f (omega arith)))) in
+                rw (g, e₂, m) (w .held j h (rw g at u))),
+          ))
+          (λ z.
+          let e₁ : a ≡ getD at k 0 = ea ∙ rw z refl in
+          let e₂ : o ≡ d = q ∙ rw z refl in (
+            ap length e₂,
+            λ j h u. by-test (eqb j k)
+                (λ y.
+                let f : j ≡ k = eqb-true j k y in
+                let g : getD (set at k a) j 0 ≡ getD at j 0 = rw f (getD-set-same at k a 0 hk ∙ e₁) in
+                rw (g, e₂) (w .held j h (rw g at u)))
+                (λ y.
+                let f : j ≡ k → ⊥ = λ r. clash (sym y ∙ eq-eqb j k r) in
+                let g : getD (set at k a) j 0 ≡ getD at j 0 = getD-set-other at k j a 0 f in
+                rw (g, e₂) (w .held j h (rw g at u))),
+          ))
+
+      pub collecting-turn : (g : Bool) (a : ℕ) (o : List ℕ) → g ≡ sumCounts ed s p (getD at k 0) good → a ≡ firstPlace (getD at k 0) true (p .nibbles)
+          → o ≡ heldIn ed s p (getD at k 0) (256 * k) d → Collecting ed s v (p .next) g (set at k a) d₀ o
+      collecting-turn g a o eg ea eo =
           let f : Field = fieldOf ed s p in
           let m = pair-more ed s i p e n in
           let nz : p .nibbles ≡ 0 → ⊥ = λ z. omega (arith, m .behind-i) in
           let hk : k < length at = omega (arith, number-lt, w .long, per-small ed) in
           let turn : (j : ℕ) → j < 35 * perTrack ed → (c : Bool) → c ≡ wants j f → sectorAt ed s (firstPlace (getD at j 0) c (p .nibbles)) ≡ bytesAt ed (j / perTrack ed) (j % perTrack ed) (w .met ++ (f ∷ [])) =
           λ j h c u. first-turn ed (wants j) s (w .met) (getD at j 0) p c u nz (w .placed-at j h ∙ bytesAt-is ed (j / perTrack ed) (j % perTrack ed) (w .met)) ∙ sym (bytesAt-is ed (j / perTrack ed) (j % perTrack ed) (w .met ++ (f ∷ []))) in
+          let y = held-turn a o ea eo in
           record {
             met = w .met ++ (f ∷ []);
             run = run-more ed s i p e n (w .met) 0 (w .run);
@@ -292,12 +347,12 @@ module _ (ed : Edition) (s : List ℕ) (v i : ℕ) (good : Bool) (at : List ℕ)
                 (λ u. let x : j ≡ k = eqb-true j k u in rw (x, getD-set-same at k a 0 hk, ea) (turn k number-lt true wants-this))
                 (λ u. let x : j ≡ k → ⊥ = λ y. clash (sym u ∙ eq-eqb j k y) in
                 rw (getD-set-other at k j a 0 x) (ap (sectorAt ed s) (sym (first-old (getD at j 0) (p .nibbles))) ∙ turn j h false (wants-other j x)));
-            inside = λ j h. by-test (eqb j k)
-                (λ u. let x : j ≡ k = eqb-true j k u in rw (x, getD-set-same at k a 0 hk, ea) (place-within ed s (getD at k 0) (p .nibbles) true (pair-fits ed s i p e n) (w .inside k number-lt)))
-                (λ u. let x : j ≡ k → ⊥ = λ y. clash (sym u ∙ eq-eqb j k y) in rw (getD-set-other at k j a 0 x) (w .inside j h));
+            size = y .0 ∙ w .size;
+            room = w .room;
+            held = y .1;
           }
 
--- ---- the end of the survey
+-- ---- the end of the scan
 -- one sector that is absent, and no other refusal
 each-absent : (f : ℕ → Outcome (List ℕ)) (h : ℕ → ℕ) (n : ℕ) → ((k : ℕ) → k < n → (f (h k) ≡ refused Absent) ⊎ ((d : List ℕ) × (f (h k) ≡ given d)))
     → (k : ℕ) → k < n → f (h k) ≡ refused Absent → each f (tab h n) ≡ refused Absent
@@ -310,15 +365,7 @@ each-absent f h (suc n) all (suc k) l e =
     ∙ rw (each-absent f (λ j. h (suc j)) n (λ j i. all (suc j) (omega arith)) k (omega arith) e) refl)
     (all zero (omega arith))
 
--- a sector has 256 bytes
-pub length-held : (ed : Edition) (s at : List ℕ) (k : ℕ) → length (heldAt ed s at k) ≡ 256
-unfolding heldAt
-length-held ed s at k = length-data ed (take (nibblesOf ed) (drop (getD at k 0) s))
-
-pub length-image : (ed : Edition) (s at : List ℕ) → length (cats (heldAt ed s at) (35 * perTrack ed)) ≡ (256 * (35 * perTrack ed))
-length-image ed s at = length-cats (heldAt ed s at) 256 (length-held ed s at) (35 * perTrack ed) ∙ omega arith
-
-module _ (ed : Edition) (s : List ℕ) (v i : ℕ) (good : Bool) (at : List ℕ) (w : Surveying ed s v i good at) (p : FieldPair) (e : p ≡ pairFrom ed s i)
+module _ (ed : Edition) (s : List ℕ) (v i : ℕ) (good : Bool) (at d₀ d : List ℕ) (w : Collecting ed s v i good at d₀ d) (p : FieldPair) (e : p ≡ pairFrom ed s i)
     (h : p .refusal ≡ 0) (z : p .next ≡ 0) where
   -- the sectors one after the other
   sectorsOf : Outcome (List ℕ)
@@ -353,82 +400,53 @@ module _ (ed : Edition) (s : List ℕ) (v i : ℕ) (good : Bool) (at : List ℕ)
       let a : bytesAt ed (k / perTrack ed) (k % perTrack ed) (w .met) ≡ refused Absent = sym (w .placed-at k l) ∙ sector-none ed s (getD at k 0) (eq-eqb (getD at k 0) 0 u) in
       rw (each-absent (λ k. bytesAt ed (k / perTrack ed) (k % perTrack ed) (w .met)) (λ k. k) (35 * perTrack ed) there k l a) refl
 
-  all-end : ((k : ℕ) → k < 35 * perTrack ed → getD at k 0 ≡ 0 → ⊥) → sectorsOf ≡ given (cats (heldAt ed s at) (35 * perTrack ed))
-  unfolding sectorsOf heldAt
+  all-end : ((k : ℕ) → k < 35 * perTrack ed → getD at k 0 ≡ 0 → ⊥) → sectorsOf ≡ given (take (256 * (35 * perTrack ed)) d)
+  unfolding sectorsOf
   all-end n =
-      each-joins (λ k. bytesAt ed (k / perTrack ed) (k % perTrack ed) (w .met)) (λ k. k) (35 * perTrack ed) (cats (heldAt ed s at) (35 * perTrack ed)) (length-image ed s at)
-      (λ k l. sym (w .placed-at k l) ∙ sector-some ed s (getD at k 0) (ne-eqb (getD at k 0) 0 (n k l))
-      ∙ ap given (sym (chunk-cats (heldAt ed s at) 256 (35 * perTrack ed) (λ j i. length-held ed s at j) k l)))
+      each-joins (λ k. bytesAt ed (k / perTrack ed) (k % perTrack ed) (w .met)) (λ k. k) (35 * perTrack ed) (take (256 * (35 * perTrack ed)) d)
+      (length-take-le (256 * (35 * perTrack ed)) d (omega (arith, w .size, w .room)))
+      (λ k l. sym (w .placed-at k l) ∙ sector-some ed s (getD at k 0) (ne-eqb (getD at k 0) 0 (n k l)) ∙ ap given (sym (sector-of k l ∙ w .held k l (n k l))))
+    where
+      -- a sector of the front of d
+      sector-of : (k : ℕ) → k < 35 * perTrack ed → take 256 (drop (256 * k) (take (256 * (35 * perTrack ed)) d)) ≡ take 256 (drop (256 * k) d)
+      sector-of k l = ap (take 256) (drop-take (256 * k) (256 * (35 * perTrack ed)) d) ∙ take-take 256 (256 * (35 * perTrack ed) - 256 * k) (drop (256 * k) d) (omega arith)
 
-  pub survey-end : (r : Places) → Decides ed good at r → Surveys ed s r
-  survey-end r (Steps.sum g q) =
+  pub collect-end : (r : ℕ) → Decides ed good at r → Collects ed s d r
+  collect-end r (Steps.sum g q) =
       let o : image ed s ≡ refused DataSum = image-end ∙ ap (λ b. cond b sectorsOf (refused DataSum)) g in
-      rw q (record { number-is = rw o refl; image-is = λ k. absurd (omega arith); fits = λ k. absurd (omega arith) })
-  survey-end r (Steps.absent g q k l u) =
+      rw q (record { number-is = rw o refl; image-is = λ k. absurd (omega arith) })
+  collect-end r (Steps.absent g q k l u) =
       let o : image ed s ≡ refused Absent = image-end ∙ ap (λ b. cond b sectorsOf (refused DataSum)) g ∙ absent-end k l u in
-      rw q (record { number-is = rw o refl; image-is = λ k. absurd (omega arith); fits = λ k. absurd (omega arith) })
-  survey-end r (Steps.all g q n) =
-      let o : image ed s ≡ given (cats (heldAt ed s at) (35 * perTrack ed)) = image-end ∙ ap (λ b. cond b sectorsOf (refused DataSum)) g ∙ all-end n in
-      rw q (record { number-is = rw o refl; image-is = λ k. o; fits = λ k. record { within = λ j l. w .inside j l (n j l); long = w .long } })
+      rw q (record { number-is = rw o refl; image-is = λ k. absurd (omega arith) })
+  collect-end r (Steps.all g q n) =
+      let o : image ed s ≡ given (take (256 * (35 * perTrack ed)) d) = image-end ∙ ap (λ b. cond b sectorsOf (refused DataSum)) g ∙ all-end n in
+      rw q (record { number-is = rw o refl; image-is = λ k. o })
 
-pub ruleset surveying = (surveying-start, survey-bad, pair-fits, pair-less, survey-stranger, number-in, number-fits, surveying-turn, survey-end, needs)
+pub ruleset collecting =
+    (collecting-start, collect-bad, pair-fits, pair-less, collect-stranger, number-in, number-fits, number-times, number-room, collecting-turn, collect-end, needs)
 
--- ---- put_image: k sectors are put in
-pub record Decoding (ed : Edition) (s at o₀ o : List ℕ) (k : ℕ) : Type 0 where
-  pub count : k ≤ 35 * perTrack ed
-  pub long : length o ≡ length o₀
-  pub blocks : Blocks (heldAt ed s at) 0 k o₀ o
+-- ---- denibblize: room for either edition, and the returns
+pub disk-room : (ed : Edition) (d : List ℕ) → length d ≡ 143360 → 256 * (35 * perTrack ed) ≤ length d
+disk-room ed d e = omega (arith, per-small ed)
 
-pub decoding-start : (ed : Edition) (s at o : List ℕ) → Decoding ed s at o o 0
-decoding-start ed s at o = record { count = omega arith; long = refl; blocks = blocks-none (heldAt ed s at) 0 o }
+module _ (ed : Edition) (s out d : List ℕ) (r : ℕ) (w : Collects ed s d r) where
+  pub image-refused : (h : Handed) → (r ≡ 0 → ⊥) → h ≡ refusedWith r → Hands (image ed s) out out h
+  image-refused = hands-number (image ed s) out r (w .number-is)
 
-pub decoding-turn : (ed : Edition) (s at o₀ o p : List ℕ) (k n : ℕ) → n ≡ perTrack ed → Decoding ed s at o₀ o k → k < 35 * n → 256 * (35 * perTrack ed) ≤ length o₀
-    → p ≡ put (256 * k) (dataOf ed (take (nibblesOf ed) (drop (getD at k 0) s))) o → Decoding ed s at o₀ p (k + 1)
-unfolding heldAt
-decoding-turn ed s at o₀ o p k n en w h room q =
-    let b : Blocks (heldAt ed s at) 0 (k + 1) o₀ p = blocks-step 256 (256 * k) (length-held ed s at) (w .blocks) q (omega arith) (omega arith) in
-    record { count = omega arith; long = b .puts .long; blocks = b }
+  module _ (z : r ≡ 0) (n : ℕ) (en : n ≡ perTrack ed) (room : length d ≡ 143360) where
+    -- the disk has its length
+    front-long : length (take (256 * (35 * perTrack ed)) d) ≡ 256 * (35 * n)
+    front-long = rw (← en) (length-take-le (256 * (35 * n)) d (omega (arith, per-small ed)))
 
-pub decoding-room : (ed : Edition) (s at o₀ o : List ℕ) (k n : ℕ) → n ≡ perTrack ed → Decoding ed s at o₀ o k → k < 35 * n → 256 * (35 * perTrack ed) ≤ length o₀
-    → 256 * k + 256 ≤ length o
-decoding-room ed s at o₀ o k n en w h room = omega (arith, w .long)
+    pub image-short : (h : Handed) → length out < 256 * (35 * n) → h ≡ refusedWith 12 → Hands (image ed s) out out h
+    image-short h l e = hands-short (image ed s) out (take (256 * (35 * perTrack ed)) d) (w .image-is z) (rw front-long l) h e
 
-pub decoding-done : (ed : Edition) (s at o₀ o : List ℕ) (k n : ℕ) → n ≡ perTrack ed → Decoding ed s at o₀ o k → 35 * n ≤ k → o ≡ put 0 (cats (heldAt ed s at) (35 * perTrack ed)) o₀
-decoding-done ed s at o₀ o k n en w h = blocks-done (35 * perTrack ed) (w .blocks) (w .count) (omega arith)
+    pub image-done : (h : Handed) (after : List ℕ) → 256 * (35 * n) ≤ length out → after ≡ placed 0 (take (256 * (35 * n) - 0) (drop 0 d)) out
+        → h ≡ acceptedWith (256 * (35 * n)) → Hands (image ed s) out after h
+    image-done h after l q e =
+        let x : List ℕ = take (256 * (35 * perTrack ed)) d in
+        let f : 256 * (35 * n) - 0 ≡ 256 * (35 * perTrack ed) = omega arith in
+        let u : after ≡ placed 0 x out = q ∙ rw f refl in
+        hands-over (image ed s) out after x (w .image-is z) (rw front-long l) (put-front (placed-put u (rw front-long (omega arith)))) h (rw front-long e)
 
-module _ (ed : Edition) (s at : List ℕ) (k n : ℕ) (en : n ≡ perTrack ed) (w : Within ed s at) (h : k < 35 * n) where
-  pub decoding-fits : getD at k 0 + (nibblesOf ed + 3) ≤ length s
-  decoding-fits = w .within k (rw en at h)
-
-  pub decoding-place : k < length at
-  decoding-place = omega (arith, w .long, per-small ed)
-
-pub ruleset decoding = (decoding-start, decoding-turn, decoding-room, decoding-done, decoding-fits, decoding-place, needs)
-
--- ---- the returns of denibblize
-module _ (ed : Edition) (s out : List ℕ) (f : Places) (w : Surveys ed s f) where
-  pub image-refused : (h : Handed) → (f .refusal ≡ 0 → ⊥) → h ≡ refusedWith (f .refusal) → Hands (image ed s) out out h
-  image-refused = hands-number (image ed s) out (f .refusal) (w .number-is)
-
-  module _ (z : f .refusal ≡ 0) where
-    pub image-fits : Within ed s (f .at)
-    image-fits = w .fits z
-
-    module _ (n : ℕ) (en : n ≡ perTrack ed) where
-      pub image-short : (h : Handed) → length out < 256 * (35 * n) → h ≡ refusedWith 12 → Hands (image ed s) out out h
-      image-short h l e =
-          let k : length out < 256 * (35 * perTrack ed) = rw en at l in
-          hands-short (image ed s) out (cats (heldAt ed s (f .at)) (35 * perTrack ed)) (w .image-is z) (rw (length-image ed s (f .at)) k) h e
-
-      pub image-room : 256 * (35 * n) ≤ length out → 256 * (35 * perTrack ed) ≤ length out
-      image-room room = rw en at room
-
-      pub image-done : (h : Handed) (after : List ℕ) → 256 * (35 * n) ≤ length out → after ≡ put 0 (cats (heldAt ed s (f .at)) (35 * perTrack ed)) out
-          → h ≡ acceptedWith (256 * (35 * n)) → Hands (image ed s) out after h
-      image-done h after room q e =
-          let l : length (cats (heldAt ed s (f .at)) (35 * perTrack ed)) ≡ 256 * (35 * perTrack ed) = length-image ed s (f .at) in
-          let r : 256 * (35 * perTrack ed) ≤ length out = rw en at room in
-          let a : h ≡ acceptedWith (256 * (35 * perTrack ed)) = rw en at e in
-          hands-over (image ed s) out after (cats (heldAt ed s (f .at)) (35 * perTrack ed)) (w .image-is z) (rw l r) (put-front (put-is q (omega arith))) h (rw l a)
-
-pub ruleset imaged = (image-refused, image-fits, image-short, image-room, image-done, needs)
+pub ruleset imaged = (disk-room, image-refused, image-short, image-done, needs)

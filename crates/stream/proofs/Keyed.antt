@@ -32,7 +32,7 @@ use Rattle.stream.specs.Stream.{sameKey, firsts, sumsOk, ofKey, sectorOf
 use Rattle.stream.specs.Steps.{Repeats, Judges, sectorAt, firstPlace, keyed, verdict, Locates}
 use Rattle.stream.specs.declared.Located.{Located}
 use Rattle.stream.proofs.Sizes.{length-data}
-use Rattle.stream.proofs.Numbers.{part-fits}
+use Rattle.stream.proofs.Numbers.{part-fits, sum-16, sum-13}
 use Rattle.stream.proofs.Firsts.{or-true, or-false, ofKey-is, sector-none, sector-some, first-turn, sums-turn}
 
 -- ---- has_key
@@ -147,7 +147,7 @@ pub record Looking (ed : Edition) (s : List ℕ) (v t n : ℕ) (i : ℕ) (good :
   pub key : sectorAt ed s at ≡ ofKey ed v t n met
   pub within : (at ≡ 0 → ⊥) → at + (nibblesOf ed + 3) ≤ length s
 
-pub place-within : (ed : Edition) (s : List ℕ) (at m : ℕ) (b : Bool) → m + (nibblesOf ed + 3) ≤ length s → ((at ≡ 0 → ⊥) → at + (nibblesOf ed + 3) ≤ length s)
+place-within : (ed : Edition) (s : List ℕ) (at m : ℕ) (b : Bool) → m + (nibblesOf ed + 3) ≤ length s → ((at ≡ 0 → ⊥) → at + (nibblesOf ed + 3) ≤ length s)
     → (firstPlace at b m ≡ 0 → ⊥) → firstPlace at b m + (nibblesOf ed + 3) ≤ length s
 place-within ed s at m b l w n =
     by-test (eqb at 0)
@@ -243,7 +243,7 @@ module _ (ed : Edition) (s o y : List ℕ) (a n at : ℕ) (k : n ≡ nibblesOf e
   unfolding dataOf
   put-13 e q = put-by decode53 (λ ns. rw e refl) q
 
-pub ruleset datas = (put-16, put-13, part-fits, needs)
+pub ruleset datas = (put-16, put-13, sum-16, sum-13, part-fits, needs)
 
 -- ---- the returns of sector_of
 module _ (ed : Edition) (s out : List ℕ) (o : Outcome (List ℕ)) (f : Located) (w : Locates ed s o f) where

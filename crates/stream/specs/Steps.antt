@@ -5,7 +5,7 @@ use mathlib.Core.List.{List}
 use Prim.Native.Nat.{ℕ, _+_, _-_, _*_, _<_, _≤_}
 use lib.Dec.{ltb, eqb}
 use lib.ListN.{length, getD, take, drop}
-use Rattle.lists.specs.Fill.{cats}
+use Rattle.lists.specs.Fill.{put}
 use Rattle.lists.specs.Select.{any}
 use Rattle.outcome.specs.declared.Refusal.the-variants.{DataSum, Absent, Stranger}
 use Rattle.outcome.specs.Refusal.{code}
@@ -17,7 +17,6 @@ use Rattle.fields.specs.Fields.{Field}
 use Rattle.fields.specs.Scan.{fieldsFrom, fieldOf, Run}
 use Rattle.stream.specs.Stream.{sameKey, sumOk, image}
 use Rattle.stream.specs.declared.Located.{Located}
-use Rattle.stream.specs.declared.Places.{Places}
 
 -- ---- small steps
 -- the place of the first nibbles that are wanted: `at`, or those of p if p is wanted
@@ -65,33 +64,27 @@ module _ (ed : Edition) where
   abbrev pub sumCounts : List ℕ → FieldPair → ℕ → Bool → Bool
   sumCounts s p old good = good && (not (eqb old 0) || sumOk ed (take (nibblesOf ed) (drop (p .nibbles) s)))
 
-  -- the bytes of DOS sector k, whose nibbles stand where `at` says
-  unfoldable pub heldAt : List ℕ → List ℕ → ℕ → List ℕ
-  heldAt s at k = dataOf ed (take (nibblesOf ed) (drop (getD at k 0) s))
+  -- d with the bytes of p put in from place `at`; as it is where an earlier pair of its sector stands at `old`
+  unfoldable pub heldIn : List ℕ → FieldPair → (old at : ℕ) → List ℕ → List ℕ
+  heldIn s p old at d = cond (eqb old 0) (put at (dataOf ed (take (nibblesOf ed) (drop (p .nibbles) s))) d) d
 
   -- r says whether each sector has a place
   pub data Complete (at : List ℕ) (r : Bool) : Type 0 where
     yes : r ≡ true → ((k : ℕ) → k < 35 * perTrack ed → getD at k 0 ≡ 0 → ⊥) → Complete at r
     no : r ≡ false → (k : ℕ) → k < 35 * perTrack ed → getD at k 0 ≡ 0 → Complete at r
 
-  -- the answer at the end of the scan
-  pub data Decides (good : Bool) (at : List ℕ) (r : Places) : Type 0 where
-    sum : good ≡ false → r ≡ record { refusal = code DataSum; at = at } → Decides good at r
-    absent : good ≡ true → r ≡ record { refusal = code Absent; at = at } → (k : ℕ) → k < 35 * perTrack ed → getD at k 0 ≡ 0 → Decides good at r
-    all : good ≡ true → r ≡ record { refusal = 0; at = at } → ((k : ℕ) → k < 35 * perTrack ed → getD at k 0 ≡ 0 → ⊥) → Decides good at r
+  -- the refusal at the end of the scan, 0 for none
+  pub data Decides (good : Bool) (at : List ℕ) (r : ℕ) : Type 0 where
+    sum : good ≡ false → r ≡ code DataSum → Decides good at r
+    absent : good ≡ true → r ≡ code Absent → (k : ℕ) → k < 35 * perTrack ed → getD at k 0 ≡ 0 → Decides good at r
+    all : good ≡ true → r ≡ 0 → ((k : ℕ) → k < 35 * perTrack ed → getD at k 0 ≡ 0 → ⊥) → Decides good at r
 
-  -- the answer where a stranger is met and the scan would go on at place i
-  pub data Meets (s : List ℕ) (i : ℕ) (r : Places) : Type 0 where
-    stranger : r .refusal ≡ code Stranger → number (fieldsFrom ed s i) ≡ 0 → Meets s i r
-    address : r .refusal ≡ number (fieldsFrom ed s i) → (r .refusal ≡ 0 → ⊥) → Meets s i r
+  -- the refusal where a stranger is met and the scan would go on at place i
+  pub data Meets (s : List ℕ) (i r : ℕ) : Type 0 where
+    stranger : r ≡ code Stranger → number (fieldsFrom ed s i) ≡ 0 → Meets s i r
+    address : r ≡ number (fieldsFrom ed s i) → (r ≡ 0 → ⊥) → Meets s i r
 
-  -- each place has its nibbles in s
-  pub record Within (s at : List ℕ) : Type 0 where
-    pub within : (k : ℕ) → k < 35 * perTrack ed → getD at k 0 + (nibblesOf ed + 3) ≤ length s
-    pub long : length at ≡ 560
-
-  -- r says where in s the sectors of its image stand, or why there is none
-  pub record Surveys (s : List ℕ) (r : Places) : Type 0 where
-    pub number-is : r .refusal ≡ number (image ed s)
-    pub image-is : r .refusal ≡ 0 → image ed s ≡ given (cats (heldAt s (r .at)) (35 * perTrack ed))
-    pub fits : r .refusal ≡ 0 → Within s (r .at)
+  -- r is the refusal of the image of s; where there is none, the image is the front of d
+  pub record Collects (s d : List ℕ) (r : ℕ) : Type 0 where
+    pub number-is : r ≡ number (image ed s)
+    pub image-is : r ≡ 0 → image ed s ≡ given (take (256 * (35 * perTrack ed)) d)

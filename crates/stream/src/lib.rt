@@ -2,12 +2,12 @@
 ghost use mathlib.Core.Path.{_≡_};
 ghost use Prim.Native.Nat.{_+_, _*_, _≤_, _<_};
 ghost use lib.ListN.{length, take, drop};
-ghost use Rattle.lists.specs.Fill.{put, cats};
+ghost use Rattle.lists.specs.Fill.{put};
 ghost use Rattle.outcome.specs.Outcome.{number, Hands};
 ghost use Rattle.fields.specs.declared.Edition.the-variants.{Sixteen, Thirteen};
 ghost use Rattle.fields.specs.Editions.{nibblesOf, perTrack, dosSector, sumOf, dataOf};
 ghost use Rattle.fields.specs.Scan.{fieldsFrom};
-ghost use Rattle.stream.specs.Steps.{keyed, firstPlace, verdict, Repeats, Judges, Locates, strange, numberOf, sumCounts, heldAt, Complete, Within, Decides, Meets, Surveys};
+ghost use Rattle.stream.specs.Steps.{keyed, firstPlace, verdict, Repeats, Judges, Locates, strange, numberOf, sumCounts, heldIn, Complete, Decides, Meets, Collects};
 ghost use Rattle.stream.specs.Stream.{Denibblized, sectorOf};
 use fields::Edition;
 use fields::FieldPair;
@@ -15,6 +15,7 @@ use fields::dos_sector;
 use fields::nibbles_in;
 use fields::parse_nib_sector;
 use fields::per_track;
+use lists::copy_at;
 use nibble::data_sum;
 use nibble::five_three;
 use nibble::sector_data;
@@ -33,12 +34,6 @@ pub(crate) struct Located {
     pub nibbles: usize,
 }
 
-// For each DOS sector of a disk the place of its nibbles, 0 for none, or the number of a refusal.
-pub(crate) struct Places {
-    pub refusal: u8,
-    pub at: [usize; 560],
-}
-
 // The XOR with the sum nibble of the data field whose nibbles stand at place a.
 fn sum_at(s: &[u8], a: usize, ed: Edition) -> u8
     requires { ⌜ a + (nibblesOf ed + 3) ≤ length (now s) ⌝ }
@@ -51,10 +46,11 @@ fn sum_at(s: &[u8], a: usize, ed: Edition) -> u8
     }
 }
 
-// Puts the 256 bytes of that data field into out from place `at`.
-fn put_data(s: &[u8], a: usize, out: &mut [u8], at: usize, ed: Edition)
+// Puts the 256 bytes of that data field into out from place `at`, whatever the sum is. The answer is that of `sum_at`.
+fn put_data(s: &[u8], a: usize, out: &mut [u8], at: usize, ed: Edition) -> u8
     requires { ⌜ (a + (nibblesOf ed + 3) ≤ length (now s)) × (at + 256 ≤ length (now out)) ⌝ }
-    ensures { λ _. ⌜ now (out .exit) ≡ put at (dataOf ed (take (nibblesOf ed) (drop a (now (s .entry))))) (now (out .entry)) ⌝ }
+    ensures bytes { λ _. ⌜ now (out .exit) ≡ put at (dataOf ed (take (nibblesOf ed) (drop a (now (s .entry))))) (now (out .entry)) ⌝ }
+    ensures sum { λ r. ⌜ r ≡ sumOf ed (take (nibblesOf ed) (drop a (now (s .entry)))) ⌝ }
 {
     let end = a + nibbles_in(ed);
     match ed {
@@ -251,18 +247,27 @@ fn sector_number(p: FieldPair, ed: Edition) -> usize
     times(per_track(ed), p.track) + dos_sector_of(p.sector, ed) as usize
 }
 
-// The sums of the fields that count are right, p among them if it is the first of its sector.
-fn sum_counts(s: &[u8], p: FieldPair, old: usize, good: bool, ed: Edition) -> bool
-    requires { ⌜ p .nibbles + (nibblesOf ed + 3) ≤ length (now s) ⌝ }
-    ensures { λ r. ⌜ r ≡ sumCounts ed (now (s .entry)) p old good ⌝ }
+// Decodes the field of p into disk from place `at` if it is the first of its sector: then `old` is 0. The answer: the sums of the fields that count are right, p among them.
+fn decode_first(
+    s: &[u8],
+    p: FieldPair,
+    old: usize,
+    good: bool,
+    disk: &mut [u8],
+    at: usize,
+    ed: Edition,
+) -> bool
+    requires { ⌜ (p .nibbles + (nibblesOf ed + 3) ≤ length (now s)) × (at + 256 ≤ length (now disk)) ⌝ }
+    ensures bytes { λ _. ⌜ now (disk .exit) ≡ heldIn ed (now (s .entry)) p old at (now (disk .entry)) ⌝ }
+    ensures sums { λ r. ⌜ r ≡ sumCounts ed (now (s .entry)) p old good ⌝ }
 {
-    if good {
-        if old != 0 {
-            return true;
+    if old == 0 {
+        if put_data(s, p.nibbles, disk, at, ed) == 0 {
+            return good;
         }
-        return sum_at(s, p.nibbles, ed) == 0;
+        return false;
     }
-    false
+    good
 }
 
 // Each sector has a place.
@@ -280,45 +285,34 @@ fn complete(at: &[usize; 560], ed: Edition) -> bool
     true
 }
 
-// Where the sectors of a disk stand at the end of the scan.
-fn places_of(good: bool, at: [usize; 560], ed: Edition) -> Places
-    ensures { λ r. ⌜ Decides ed good at r ⌝ }
+// The refusal at the end of the scan: 9, 10, or 0 for none.
+fn number_of(good: bool, at: &[usize; 560], ed: Edition) -> u8
+    ensures { λ r. ⌜ Decides ed good (now (at .entry)) r ⌝ }
 {
     if good {
-        if complete(&at, ed) {
-            return Places { refusal: 0, at: at };
+        if complete(at, ed) {
+            return 0;
         }
-        return Places {
-            refusal: ABSENT,
-            at: at,
-        };
+        return ABSENT;
     }
-    Places {
-        refusal: DATA_SUM,
-        at: at,
-    }
+    DATA_SUM
 }
 
-// The answer where a stranger is met: an address sum further on comes before it.
-fn stranger_met(s: &[u8], i: usize, at: [usize; 560], ed: Edition) -> Places
+// The refusal where a stranger is met: an address sum further on comes before it.
+fn stranger_met(s: &[u8], i: usize, ed: Edition) -> u8
     ensures { λ r. ⌜ Meets ed (now (s .entry)) i r ⌝ }
 {
     let number = address_refusal(s, i, ed);
     if number == 0 {
-        return Places {
-            refusal: STRANGER,
-            at: at,
-        };
+        return STRANGER;
     }
-    Places {
-        refusal: number,
-        at: at,
-    }
+    number
 }
 
-// Where the sectors of a disk stand; refusals 8, 11, 9, 10. No bytes are decoded.
-fn survey(s: &[u8], ed: Edition) -> Places
-    ensures { λ r. ⌜ Surveys ed (now (s .entry)) r ⌝ }
+// Decodes the first field of each sector into disk; the refusal 8, 11, 9 or 10, or 0 for none. `at` has for each DOS sector the place of its nibbles, 0 for none yet.
+fn collect(s: &[u8], disk: &mut [u8], ed: Edition) -> u8
+    requires { ⌜ 256 * (35 * perTrack ed) ≤ length (now disk) ⌝ }
+    ensures { λ r. ⌜ Collects ed (now (s .entry)) (now (disk .exit)) r ⌝ }
 {
     let first = parse_nib_sector(s, 0, ed);
     let mut i: usize = 0;
@@ -327,52 +321,41 @@ fn survey(s: &[u8], ed: Edition) -> Places
     loop {
         let p = parse_nib_sector(s, i, ed);
         if p.refusal != 0 {
-            return Places {
-                refusal: ADDRESS_SUM,
-                at: at,
-            };
+            return ADDRESS_SUM;
         }
         if p.next == 0 {
-            return places_of(good, at, ed);
+            return number_of(good, &at, ed);
         }
         if is_stranger(p, first.volume, ed) {
-            return stranger_met(s, p.next, at, ed);
+            return stranger_met(s, p.next, ed);
         }
         let k = sector_number(p, ed);
         let old = at[k];
-        good = sum_counts(s, p, old, good, ed);
+        good = decode_first(s, p, old, good, disk, 256 * k, ed);
         at[k] = first_place(old, true, p.nibbles);
         i = p.next;
     }
 }
 
-// Decodes the sectors from their places.
-fn put_image(s: &[u8], at: &[usize; 560], out: &mut [u8], ed: Edition)
-    requires { ⌜ Within ed (now s) (now at) × (256 * (35 * perTrack ed) ≤ length (now out)) ⌝ }
-    ensures { λ _. ⌜ now (out .exit) ≡ put 0 (cats (heldAt ed (now (s .entry)) (now (at .entry))) (35 * perTrack ed)) (now (out .entry)) ⌝ }
-{
-    let n = 35 * (per_track(ed) as usize);
-    let mut k: usize = 0;
-    while k < n {
-        put_data(s, at[k], out, 256 * k, ed);
-        k += 1;
-    }
+// Room for a flat disk of either edition.
+fn space() -> [u8; 143360] {
+    [0; 143360]
 }
 
-// The flat disk that a stream holds (not in the Rust); refusals 8, 11, 9, 10, 12. One pass looks at sums alone, then the sectors are decoded.
+// The flat disk that a stream holds (not in the Rust); refusals 8, 11, 9, 10, 12. The sectors are decoded in one pass, into space of its own (143,360 bytes of the stack), and copied to out when nothing is refused any more.
 fn denibblize_of(s: &[u8], out: &mut [u8], ed: Edition) -> Handed
     ensures { λ r. ⌜ Denibblized ed (now (s .entry)) (now (out .entry)) (now (out .exit)) r ⌝ }
 {
-    let places = survey(s, ed);
-    if places.refusal != 0 {
-        return refused(places.refusal);
+    let mut disk = space();
+    let number = collect(s, &mut disk, ed);
+    if number != 0 {
+        return refused(number);
     }
     let size = 256 * (35 * (per_track(ed) as usize));
     if out.len() < size {
         return refused(TRAY_SHORT);
     }
-    let at = places.at;
-    put_image(s, &at, out, ed);
+    copy_at(&disk[0..size], out, 0);
     accepted(size)
 }
 
