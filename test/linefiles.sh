@@ -6,7 +6,7 @@ set -u
 export LC_ALL=C
 root=$(cd "$(dirname "$0")/.." && pwd) || exit 2
 expected=$root/test/expected
-"$root/linefiles" help >/dev/null || exit 2 # builds, if need be
+"$root/linefiles" survey "$root/samples/one-page.dsk" >/dev/null || exit 2 # builds, if need be
 work=$(mktemp -d) || exit 2
 trap 'rm -rf "$work"' EXIT
 cd "$work" || exit 2
@@ -106,6 +106,9 @@ joined() {
 
 sum_is() { [ "$(sha256sum <"$1")" = "$2  -" ]; }
 
+# body [FILE]: what is printed behind what was read.
+body() { sed '0,/sectors a track/d' "$@" | sed '/^It holds a disk of /d'; }
+
 # plain FILE: no byte that a terminal may act on, and no line over 80 columns.
 plain() { [ "$(tr -d '\n -~' <"$1" | wc -c)" -eq 0 ] && [ "$(wc -L <"$1")" -le 80 ]; }
 
@@ -146,6 +149,57 @@ damaged link-bytes.dsk one-page.dsk "$(at 17 15 1)" 00 07
 patch link-bytes.dsk "$(at 18 15 2)" 09
 same list-link-bytes list link-bytes.dsk
 
+# list and survey as JSON: the same facts
+for disk in one-page several-pages ring ring-of-pages cut-link overlong alike; do
+    same "list-json-$disk" list "samples/$disk.dsk" --json
+    cp out "list-$disk.json"
+    same "survey-json-$disk" --json survey "samples/$disk.dsk"
+    cp out "survey-$disk.json"
+done
+same list-json-nibbles list samples/one-page.nib --json
+cp out list-nibbles.json
+holds list-json-nibbles-equal diff <(sed '/"refusal"/,$!d' list-one-page.json) <(sed '/"refusal"/,$!d' out)
+same list-json-thirteen list samples/thirteen.nib --json --13
+cp out list-thirteen.json
+same list-json-no-table list no-table.dsk --json
+cp out list-no-table.json
+same survey-json-no-table survey no-table.dsk --json
+same list-json-page-off list page-off.dsk --json
+head -c 1000 samples/one-page.nib >cut.nib
+same list-json-absent list cut.nib --json
+cp out list-absent.json
+same survey-json-absent survey cut.nib --json
+cp out survey-absent.json
+cat samples/one-page.nib samples/thirteen.nib >two.nib
+same survey-json-two survey two.nib --json
+cp samples/one-page.dsk $'odd "name"\\ \xc3\xbc \xff \x1b.dsk'
+run survey $'odd "name"\\ \xc3\xbc \xff \x1b.dsk' --json
+holds json-path test "$(sed -n 2p out)" = $'  "file": "odd \\"name\\"\\\\ \xc3\xbc \\ufffd \\u001b.dsk",'
+cp out odd-path.json
+if command -v python3 >/dev/null; then
+    for file in *.json; do holds "json-parses-$file" python3 -m json.tool "$file"; done
+fi
+
+# map as a picture: that of README is what the command draws
+run map samples/one-page.dsk --svg -
+holds svg-readme cmp out "$root/docs/one-page.svg"
+holds svg-notes test "$status $(cat err)" = '0 samples/one-page.dsk: flat disk of 143360 bytes, 16 sectors a track'
+same svg-file map samples/one-page.dsk --svg outs/one.svg
+holds svg-file-bytes cmp outs/one.svg "$root/docs/one-page.svg"
+same svg-there map samples/full.dsk --svg outs/one.svg
+holds svg-there-kept cmp outs/one.svg "$root/docs/one-page.svg"
+same svg-ring map samples/ring.dsk --svg outs/none
+holds svg-nothing-left not test -e outs/none
+for disk in one-page.dsk one-page.nib several-pages.dsk full.dsk overlong.dsk last-pair.dsk alike.dsk thirteen.nib moved-catalog.dsk; do
+    run map "samples/$disk" --svg -
+    cp out "${disk/./-}.svg"
+done
+holds svg-nibbles diff <(sed 's/one-page\.nib/one-page.dsk/' one-page-nib.svg) "$root/docs/one-page.svg"
+if command -v python3 >/dev/null; then
+    for file in *.svg; do holds "svg-parses-$file" python3 -c 'import sys, xml.dom.minidom as x; assert x.parse(sys.argv[1]).documentElement.tagName == "svg"' "$file"; done
+fi
+rm -f outs/*
+
 # survey and map
 same survey-one-page survey samples/one-page.dsk
 same survey-one-page-nibbles survey samples/one-page.nib
@@ -172,13 +226,48 @@ holds get-raw-bytes-equal cmp outs/bell outs/bell-raw
 same get-backslash get samples/several-pages.dsk 'BACK\\SLASH' outs/backslash
 same get-empty-name get samples/several-pages.dsk '' outs/empty-name
 same get-text get samples/one-page.dsk 'SHIFT NOTES' outs/notes
-holds get-text-empty cmp /dev/null outs/notes
+holds get-text-nothing not test -e outs/notes
+same get-text-empty get samples/one-page.dsk 'SHIFT NOTES' outs/notes --empty
+holds get-text-empty-bytes cmp /dev/null outs/notes
+same get-binary-empty-said get samples/one-page.dsk 'LINE 7 STATIONS' outs/stations-too --empty
+holds get-binary-empty-said-bytes cmp wanted outs/stations-too
 same get-not-on-roll get samples/one-page.dsk 'LINE 8' outs/none
 same get-deleted get samples/one-page.dsk 'LINE 6 OLD' outs/none
 same get-long-name get samples/one-page.dsk 'LINE 7 RING 1 AND MORE THAN THIRTY' outs/none
 same get-ring get samples/ring.dsk 'LINE 7 RING 1' outs/none
 holds get-nothing-left not test -e outs/none
 rm -f outs/*
+
+# get --all: every Binary file under its own name
+same get-all get samples/one-page.dsk --all outs/all
+holds get-all-tidy test "$(ls -A outs/all | tr '\n' '|')" = 'LINE 7 RING 1|LINE 7 RINGS 2 TO 2667|LINE 7 STATIONS|'
+holds get-all-bytes cmp wanted "outs/all/LINE 7 STATIONS"
+"$root/linefiles" get samples/one-page.dsk 'LINE 7 RINGS 2 TO 2667' outs/rings >/dev/null
+holds get-all-long cmp outs/rings "outs/all/LINE 7 RINGS 2 TO 2667"
+same get-all-there get samples/one-page.dsk --all outs/all
+same get-all-force get --all samples/one-page.nib outs/all --force --empty
+holds get-all-force-tidy test "$(ls -A outs/all | wc -l) $(stat -c %s "outs/all/SHIFT NOTES")" = '4 0'
+same get-all-several get samples/several-pages.dsk --all outs/several
+(cd outs/several && sha256sum -- *) >sums
+if [ -n "${UPDATE:-}" ]; then cp sums "$expected/get-all-several-sums"; fi
+holds get-all-several-sums diff "$expected/get-all-several-sums" sums
+"$root/linefiles" get samples/several-pages.dsk 'LINE 1 RING 1' outs/last-of-name >/dev/null
+holds get-all-last-of-name cmp outs/last-of-name 'outs/several/LINE 1 RING 1~2'
+damaged odd-names.dsk one-page.dsk "$(at 17 15 $((11 + 3)))" af ae 7e $(printf 'a0 %.0s' {1..27}) # /.~
+patch odd-names.dsk "$(at 17 15 $((11 + 35 + 3)))" ae ae $(printf 'a0 %.0s' {1..28}) # ..
+patch odd-names.dsk "$(at 17 15 $((11 + 105 + 3)))" $(printf 'a0 %.0s' {1..30}) # no letters
+same list-odd-names list odd-names.dsk
+same get-all-odd-names get odd-names.dsk --all outs/odd
+holds get-all-odd-names-tidy test "$(ls -A outs/odd | tr '\n' '|')" = '\x2e.|\x2f.\x7e|~1|'
+holds get-all-odd-names-bytes cmp wanted 'outs/odd/~1'
+same get-all-ring get samples/ring.dsk --all outs/ring
+same get-all-overlong get samples/overlong.dsk --all outs/overlong
+holds get-all-nothing-left not test -e outs/ring -o -e outs/overlong
+same get-all-on-file get samples/one-page.dsk --all outs/rings
+same get-all-no-folder get samples/one-page.dsk --all outs/none/all
+same get-all-dash get samples/one-page.dsk --all -
+same get-all-too-many get samples/one-page.dsk NAME --all outs/all
+rm -rf outs/*
 
 # archive, check, show
 same archive-one-page archive samples/one-page.dsk outs/flat.arc
@@ -241,7 +330,7 @@ holds denibblize-nothing-left not test -e outs/none
 rm -f outs/*
 same list-last-pair list samples/last-pair.dsk
 holds list-last-pair-plain plain out
-sed 1d out >listed-last
+body out >listed-last
 same survey-last-pair survey samples/last-pair.dsk
 same map-last-pair map samples/last-pair.dsk
 holds map-last-pair-560 test "$(counted out)" = 560
@@ -271,7 +360,7 @@ same check-last-pair check samples/last-pair.dsk outs/last.arc
 same show-last-pair show outs/last.arc
 same nibblize-last-pair nibblize samples/last-pair.dsk outs/last.nib
 same list-last-pair-nibbles list outs/last.nib
-holds list-last-pair-nibbles-equal diff listed-last <(sed 1d out)
+holds list-last-pair-nibbles-equal diff listed-last <(body out)
 same get-last-pair-nibbles get outs/last.nib 'DRIVE OF 125 SECTORS' outs/125-nibbles
 holds get-last-pair-nibbles-bytes cmp outs/125 outs/125-nibbles
 same check-last-pair-nibbles check outs/last.nib outs/last.arc
@@ -315,7 +404,7 @@ same list-pair-122-added list pair.dsk
 # byte 39 of the VTOC, the pairs of a list, is not used
 damaged byte-39.dsk last-pair.dsk "$(at 17 0 39)" 79
 run list byte-39.dsk
-holds byte-39-121 diff listed-last <(sed 1d out)
+holds byte-39-121 diff listed-last <(body out)
 patch byte-39.dsk "$(at 17 0 39)" 00
 run check byte-39.dsk outs/last.arc
 holds byte-39-check test "$status" = 0
@@ -324,11 +413,11 @@ holds byte-39-check test "$status" = 0
 rm -f outs/*
 same list-thirteen list samples/thirteen.dsk
 holds list-thirteen-plain plain out
-sed 1d out >listed
+body out >listed
 same list-thirteen-nibbles list samples/thirteen.nib
-holds list-thirteen-nibbles-equal diff listed <(sed 1d out)
+holds list-thirteen-nibbles-equal diff listed <(body out)
 same list-same-files list samples/same-files.dsk
-sed 1d out >listed-same
+body out >listed-same
 files_of() { sed -n '/^Files/,$p' "$1" | grep -v '^   *list '; }
 holds list-same-files-equal diff <(files_of listed | sed '$d') <(files_of listed-same | sed '$d')
 same survey-thirteen survey samples/thirteen.dsk
@@ -345,9 +434,9 @@ holds map-same-files-560 test "$(counted out)" = 560
 # the map's three lowest bits are no sector's; the bit above them is sector 0's, and the highest sector 12's
 damaged low-bits.dsk thirteen.dsk "$(at_13 17 0 $((57 + 4 * 3)))" ff
 run survey low-bits.dsk
-holds low-bits-survey diff <(sed 1d surveyed) <(sed 1d out)
+holds low-bits-survey diff <(body surveyed) <(body out)
 run map low-bits.dsk
-holds low-bits-map diff <(sed 1d mapped) <(sed 1d out)
+holds low-bits-map diff <(body mapped) <(body out)
 patch low-bits.dsk "$(at_13 17 0 $((56 + 4 * 3)))" 80 08
 patch low-bits.dsk "$(at_13 17 0 $((56 + 4 * 18)))" 80 10
 same map-thirteen-bits map low-bits.dsk
@@ -360,7 +449,7 @@ patch no-table.dsk "$(at_13 17 0 52)" 24 0d
 same list-thirteen-tracks list no-table.dsk
 patch no-table.dsk "$(at_13 17 0 52)" 28
 run survey no-table.dsk
-holds survey-thirteen-40-tracks diff <(sed 1d surveyed) <(sed 1d out)
+holds survey-thirteen-40-tracks diff <(body surveyed) <(body out)
 damaged first-page-off.dsk thirteen.dsk "$(at_13 17 0 2)" 0d
 same list-thirteen-first-page-off list first-page-off.dsk
 damaged page-off.dsk thirteen.dsk "$(at_13 17 12 2)" 0d
@@ -388,7 +477,7 @@ same list-thirteen-cut-link list cut-link.dsk
 # a disk of 143,360 bytes stays one of 16 sectors a track, also where its VTOC says 13
 damaged says-13.dsk same-files.dsk "$(at 17 0 53)" 0d
 run list says-13.dsk
-holds list-says-13 diff listed-same <(sed 1d out)
+holds list-says-13 diff listed-same <(body out)
 
 # 13 sectors a track: get, archive, check, show
 same get-thirteen get samples/thirteen.dsk 'LINE 2 STATIONS' outs/stations
@@ -443,14 +532,14 @@ cat samples/one-page.nib samples/thirteen.nib >both.nib
 cat samples/thirteen.nib samples/one-page.nib >both-13.nib
 same both-list list both.nib
 same both-list-13 list both.nib --13
-holds both-list-13-equal diff listed <(sed 1d out)
+holds both-list-13-equal diff listed <(body out)
 same both-13-list list both-13.nib
-holds both-13-list-equal diff listed <(sed 1,2d out)
+holds both-13-list-equal diff listed <(body out)
 same both-13-list-16 list both-13.nib --16
 run list samples/one-page.dsk
 cp out listed-16
 run list both-13.nib --16
-holds both-13-list-16-equal diff <(sed 1d listed-16) <(sed 1d out)
+holds both-13-list-16-equal diff <(body listed-16) <(body out)
 same both-archive archive both.nib outs/both-16.arc
 "$root/linefiles" archive samples/one-page.dsk outs/one.arc >/dev/null
 holds both-archive-bytes cmp outs/both-16.arc outs/one.arc
@@ -481,12 +570,12 @@ same none-of-both list none-of-both.nib
 # the catalog off track 17: the files of same-files.dsk, and on track 17 a page that nothing leads to
 same list-moved list samples/moved-catalog.dsk
 holds list-moved-plain plain out
-sed 1d out >listed-moved
+body out >listed-moved
 holds list-moved-files diff <(sed -n '/^Files/,$p' listed-same) <(sed -n '/^Files/,$p' listed-moved)
 run survey samples/same-files.dsk
 cp out surveyed
 same survey-moved survey samples/moved-catalog.dsk
-holds survey-moved-equal diff <(sed 1d surveyed) <(sed 1d out)
+holds survey-moved-equal diff <(body surveyed) <(body out)
 same map-moved map samples/moved-catalog.dsk
 holds map-moved-560 test "$(counted out)" = 560
 same get-moved get samples/moved-catalog.dsk 'LINE 2 RINGS 2 TO 2603' outs/moved-rings
@@ -498,7 +587,7 @@ same check-moved check samples/moved-catalog.dsk outs/13.arc
 same check-moved-thirteen check samples/thirteen.nib outs/moved.arc
 same nibblize-moved nibblize samples/moved-catalog.dsk outs/moved.nib
 same list-moved-nibbles list outs/moved.nib
-holds list-moved-nibbles-equal diff listed-moved <(sed 1d out)
+holds list-moved-nibbles-equal diff listed-moved <(body out)
 same check-moved-nibbles check outs/moved.nib outs/13.arc
 
 # sector_to FROM SECTOR FILE SECTOR: one sector of a disk into another disk; the sectors are numbers from the disk's start.
@@ -570,7 +659,7 @@ same list-thirteen-moved-off list moved.dsk
 patch moved.dsk "$(at_13 17 0 1)" 23 03
 same list-thirteen-moved-35 list moved.dsk
 
-# the options for streams
+# the options
 same option-both list samples/thirteen.nib --13 --16
 same option-both-apart --16 list samples/thirteen.nib --13
 same option-twice survey --13 samples/thirteen.nib --13
@@ -579,12 +668,70 @@ same option-flat-13 list samples/thirteen.dsk --13
 same option-flat-16 archive samples/one-page.dsk outs/none --16 --force
 same option-flat-other map samples/one-page.dsk --13
 same option-show show outs/13.arc --13
-same option-help help --16
 same option-unknown list samples/thirteen.nib --14
-same option-unknown-file list --14
+same option-unknown-short list -x
+same option-unknown-end get samples/one-page.dsk -- --14 outs/none
 same option-too-few list --13
 same option-missing list nosuch.nib --13
+for option in --force --svg --all --empty --16; do same "option-show$option" show outs/13.arc $option; done
+for option in --json --raw --svg --all --empty; do same "option-archive$option" archive samples/one-page.dsk outs/none $option; done
+same option-list-force list samples/one-page.dsk --force
+same option-map-json map samples/one-page.dsk --json
 holds option-nothing-left not test -e outs/none
+cp samples/one-page.dsk ./--raw
+cp samples/one-page.dsk ./-
+run list -- --raw
+holds option-end test "$status $(sed -n 1p out)" = '0 --raw: flat disk of 143360 bytes, 16 sectors a track'
+run list --raw -- --raw
+holds option-end-raw grep -q '^ *raw ' out
+run list ./-
+holds option-path-dash test "$status $(sed -n 1p out)" = '0 ./-: flat disk of 143360 bytes, 16 sectors a track'
+
+# - is standard input and standard output
+"$root/linefiles" list - <samples/one-page.dsk >out 2>err
+holds dash-list diff <(body out) <("$root/linefiles" list samples/one-page.dsk | body)
+holds dash-list-says test "$(sed -n 1p out)" = 'standard input: flat disk of 143360 bytes, 16 sectors a track'
+"$root/linefiles" survey - --json <samples/one-page.nib >out 2>err
+holds dash-json test "$(sed -n 2p out)" = '  "file": "-",'
+run get samples/one-page.dsk 'LINE 7 STATIONS' -
+dd if=samples/one-page.dsk of=wanted bs=1 skip="$(at 26 10 4)" count=252 status=none
+holds dash-get cmp wanted out
+holds dash-get-says test "$status $(cat err)" = '0 samples/one-page.dsk: flat disk of 143360 bytes, 16 sectors a track'
+"$root/linefiles" denibblize - - <samples/one-page.nib >out 2>err
+holds dash-denibblize cmp samples/one-page.dsk out
+holds dash-denibblize-says test "$(cat err)" = 'standard input: taken as a nibble stream of 232960 bytes,
+  16 sectors a track (first address mark D5 AA 96)'
+run nibblize samples/one-page.dsk -
+holds dash-nibblize cmp samples/one-page.nib out
+run archive samples/one-page.dsk -
+holds dash-archive sum_is out dc4c7b00de46357a230ca5eb54154fbe5ffe98d89bd778daf261a36b7a93dda6
+"$root/linefiles" archive - - <samples/one-page.nib 2>err | "$root/linefiles" check samples/one-page.dsk - >out
+holds dash-check grep -qx 'pass: this is the archive of this disk' out
+"$root/linefiles" archive samples/one-page.dsk - 2>err | "$root/linefiles" show - >out
+holds dash-show test "$(sed -n 1p out)" = 'standard input: archive of 34560 bytes'
+same dash-both check - -
+same dash-get-refused get samples/ring.dsk 'LINE 7 RING 1' -
+holds dash-no-file not test -e outs/-
+
+# descriptors that are closed, and too little stack
+"$root/linefiles" archive samples/one-page.dsk outs/none >&- 2>err
+holds closed-output test "$? $(cat err)" = '2 linefiles: standard output is closed'
+holds closed-output-nothing not test -e outs/none
+"$root/linefiles" archive samples/one-page.dsk outs/closed 2>&- >out
+holds closed-error sum_is outs/closed dc4c7b00de46357a230ca5eb54154fbe5ffe98d89bd778daf261a36b7a93dda6
+"$root/linefiles" archive samples/ring.dsk outs/none 2>&- >out
+holds closed-error-refused test "$? $(ls outs/none 2>/dev/null)" = '1 '
+"$root/linefiles" survey - <&- >out 2>err
+holds closed-input test "$? $(cat err)" = '2 linefiles: cannot read standard input: Bad file descriptor'
+"$root/linefiles" survey samples/one-page.dsk <&- >out 2>err
+holds closed-input-unused test "$? $(cat err)" = '0 '
+(ulimit -s 1024 && exec "$root/linefiles" archive samples/one-page.dsk outs/none) >out 2>err
+holds little-stack test "$? $(cat err)" = '2 linefiles: the stack is limited to 1024 KiB (ulimit -s), and 6144 are needed'
+holds little-stack-nothing not test -e outs/none
+(ulimit -S -s 1024 && exec "$root/linefiles" archive samples/one-page.dsk outs/raised) >out 2>err
+holds little-stack-raised sum_is outs/raised dc4c7b00de46357a230ca5eb54154fbe5ffe98d89bd778daf261a36b7a93dda6
+"$root/linefiles" list samples/full.dsk 2>err | sed -n 1q
+holds nobody-reads test ! -s err
 
 # files that cannot be read
 same missing list nosuch.dsk
@@ -612,6 +759,39 @@ holds force-bytes sum_is outs/there dc4c7b00de46357a230ca5eb54154fbe5ffe98d89bd7
 same force-first --force archive samples/one-page.dsk outs/there
 same force-between nibblize --force samples/one-page.dsk outs/there
 holds force-between-bytes cmp outs/there samples/one-page.nib
+# only a file is replaced; a link is written through; owner and mode stay
+same force-again nibblize samples/one-page.dsk outs/there --force
+same force-shorter archive samples/one-page.dsk outs/there --force
+holds force-shorter-bytes sum_is outs/there dc4c7b00de46357a230ca5eb54154fbe5ffe98d89bd778daf261a36b7a93dda6
+mkfifo outs/pipe
+same force-pipe archive samples/one-page.dsk outs/pipe --force
+same out-pipe archive samples/one-page.dsk outs/pipe
+holds force-pipe-stays test -p outs/pipe
+same force-device archive samples/one-page.dsk /dev/null --force
+holds force-device-stays test -c /dev/null
+rm outs/pipe
+chmod 640 outs/there
+ln -s there outs/link
+same force-link nibblize samples/one-page.dsk outs/link --force
+holds force-link-stays test -L outs/link
+holds force-link-bytes cmp outs/there samples/one-page.nib
+holds force-mode test "$(stat -c %a outs/there)" = 640
+same out-link nibblize samples/one-page.dsk outs/link
+rm outs/link
+ln -s new outs/dangling
+same out-dangling archive samples/one-page.dsk outs/dangling
+holds out-dangling-nothing not test -e outs/new
+same force-dangling archive samples/one-page.dsk outs/dangling --force
+holds force-dangling-bytes sum_is outs/new dc4c7b00de46357a230ca5eb54154fbe5ffe98d89bd778daf261a36b7a93dda6
+rm outs/dangling outs/new
+same force-new archive samples/one-page.dsk outs/new --force
+rm outs/new
+long=$(printf '%0250d' 7)
+run archive samples/one-page.dsk "outs/$long"
+holds long-name sum_is "outs/$long" dc4c7b00de46357a230ca5eb54154fbe5ffe98d89bd778daf261a36b7a93dda6
+rm "outs/$long"
+run archive samples/one-page.dsk "outs/${long}1234567"
+holds too-long-name test "$status $(cat err)" = "2 linefiles: cannot write outs/${long}1234567: File name too long"
 mkdir outs/folder
 same out-folder archive samples/one-page.dsk outs/folder
 same out-folder-force archive samples/one-page.dsk outs/folder --force
@@ -647,7 +827,6 @@ if [ -w /dev/full ]; then
     full full-archive archive samples/one-page.dsk outs/written
     full full-check check samples/one-page.dsk outs/written
     full full-show show outs/written
-    full full-help help
 fi
 if [ "$(id -u)" -ne 0 ]; then # root may read and write all
     chmod a-w outs
@@ -687,9 +866,9 @@ holds list-runs diff "$expected/list-runs" runs
 damaged one-bit.dsk alike.dsk "$(at 17 15 $((11 + 3)))" 41
 same list-one-bit list one-bit.dsk
 run survey samples/alike.dsk
-sed 1d out >survey
+body out >survey
 run survey one-bit.dsk
-holds survey-one-bit diff survey <(sed 1d out)
+holds survey-one-bit diff survey <(body out)
 same check-one-bit check one-bit.dsk outs/alike
 same archive-one-bit archive one-bit.dsk outs/one-bit
 same check-one-bit-own check one-bit.dsk outs/one-bit
@@ -721,41 +900,118 @@ same raw-help help --raw
 # usage
 same help help
 holds help-plain plain out
-same help-option --help
+cp out helped
+for word in -h --help 'list --help' 'help get' '-h list nosuch'; do
+    run $word
+    holds "help-by-${word// /-}" diff helped out
+done
+run get samples/one-page.dsk -- --help outs/none
+holds help-behind-end test "$status $(sed -n 2p err)" = '1   no file is named --help'
+same version --version
+holds version-crate grep -qx "version = \"$(cut -d' ' -f2 out)\"" "$root/host/Cargo.toml"
 same no-arguments
 same unknown-command lists samples/one-page.dsk
+same unknown-command-none --13
 same too-few get samples/one-page.dsk 'LINE 7 RING 1'
 same too-many list samples/one-page.dsk samples/full.dsk
 same no-disk survey
 run get samples/several-pages.dsk "$(printf '%05000d' 7)" outs/none
 holds long-argument test "$status $(cat err)" = '2 linefiles: an argument is longer than 4096 bytes'
 for command in map archive check show nibblize denibblize; do same "usage-$command" "$command"; done
+same usage-map-svg map samples/one-page.dsk --svg
+for word in help --version; do
+    "$root/linefiles" $word >/dev/full 2>err
+    holds "full-$word" test "$? $(tail -n 1 err)" = '2 linefiles: cannot write to standard output'
+done
 
 # the wrapper: from another folder, by a link, and where it has to build
 ln -s "$root/linefiles" by-link
 ./by-link survey samples/one-page.dsk >by-link.out
 holds wrapper-by-link diff by-link.out <("$root/linefiles" survey samples/one-page.dsk)
-mkdir -p fresh/crates tools
+mkdir -p fresh/crates/{lists,screen,linefiles,other} tools
 cp "$root/linefiles" fresh/linefiles
-touch fresh/crates.txt
-for tool in bash env dirname readlink find mktemp cat rm touch mkdir cp; do ln -s "$(command -v $tool)" tools/$tool; done
-PATH=$work/tools fresh/linefiles help >out 2>err
-holds wrapper-no-rt test "$? $(cat err)" = '2 linefiles: cannot build: there is no rt, the command of the Rattle kit, on the PATH'
+printf '%s\n' '# crates' 'lists:' 'other: lists' 'screen: lists io' 'linefiles: screen lists io os' >fresh/crates.txt
+for tool in bash env dirname readlink find mktemp cat rm touch mkdir cp flock sleep; do ln -s "$(command -v $tool)" tools/$tool; done
+wrapped() {
+    PATH=$work/tools fresh/linefiles "$@" >out 2>err
+    status=$?
+}
+wrapped help
+holds wrapper-help diff helped out
+wrapped --version
+holds wrapper-version test "$status $(cat err)" = '0 '
+wrapped survey samples/one-page.dsk
+holds wrapper-no-rt test "$status $(cat err)" = '2 linefiles: cannot build: there is no rt, the command of the Rattle kit, on the PATH'
 printf '#!/usr/bin/env bash\necho "the log of $*"\nexit 1\n' >tools/rt
 chmod +x tools/rt
-PATH=$work/tools fresh/linefiles help >out 2>err
-holds wrapper-build-fails test "$? $(cat err)" = "2 linefiles: building, some minutes the first time
+wrapped survey samples/one-page.dsk
+building='linefiles: building; the first time all is proved, which takes some minutes'
+holds wrapper-build-fails test "$status $(cat err)" = "2 $building
 the log of check linefiles
 linefiles: rt check linefiles failed"
-printf '#!/usr/bin/env bash\necho "the log of $*"\nmkdir -p target/bin && cp %q target/bin/linefiles\n' "$root/target/bin/linefiles" >tools/rt
-PATH=$work/tools fresh/linefiles survey samples/one-page.dsk >out 2>err
-holds wrapper-builds test "$? $(cat err)" = '0 linefiles: building, some minutes the first time'
+# rt as it is: a line for each crate that is proved; with `slow` there it takes its time over the second
+cat >tools/rt <<END
+#!/usr/bin/env bash
+mkdir -p target/log target/bin
+for crate in lists screen linefiles; do
+    touch target/log/\$crate.out
+    if [ -e slow ] && [ \$crate = screen ]; then sleep 3; fi
+    touch target/log/\$crate.res
+    echo "rt: \$crate proved (1 s)"
+done
+cp $(printf %q "$root/target/bin/linefiles") target/bin/linefiles
+echo "rt: ok, 3 crates proved"
+END
+wrapped survey samples/one-page.dsk
+sed -E 's/[0-9]+:[0-9]{2}/TIME/' err >told
+holds wrapper-builds diff told - <<END
+$building
+linefiles: 1 of 3 crates proved, TIME so far: lists
+linefiles: 2 of 3 crates proved, TIME so far: screen
+linefiles: 3 of 3 crates proved, TIME so far: linefiles
+linefiles: built in TIME
+END
 holds wrapper-builds-output diff by-link.out out
-PATH=$work/tools fresh/linefiles survey samples/ring.dsk >out 2>err
-holds wrapper-built test "$? $(cat err)" = '1 refused: 4 ring, file 2 LINE 7 RINGS 2 TO 90: list 18/1 leads back to list 18/6'
+wrapped survey samples/ring.dsk
+holds wrapper-built test "$status $(cat err)" = "1 refused: 4 ring
+  file 2 LINE 7 RINGS 2 TO 90: list 18/1 leads back to list 18/6"
 touch -d '1 hour' fresh/crates/newer
-PATH=$work/tools fresh/linefiles survey samples/one-page.dsk >out 2>err
-holds wrapper-builds-again test "$? $(cat err)" = '0 linefiles: building, some minutes the first time'
+wrapped survey samples/one-page.dsk
+holds wrapper-builds-again test "$status $(sed -n 1p err)" = "0 $building"
+# two first runs at once: the second waits, and does not build again
+rm -rf fresh/crates/newer fresh/target
+touch fresh/slow
+PATH=$work/tools fresh/linefiles survey samples/one-page.dsk >first.out 2>first.err &
+while ! [ -e fresh/target/log/screen.out ]; do sleep 0.1; done
+wrapped survey samples/one-page.dsk
+wait
+holds wrapper-waits test "$status $(cat err)" = '0 linefiles: another build is under way; waiting for it'
+holds wrapper-waits-output diff by-link.out out
+holds wrapper-first-output diff by-link.out first.out
+# on a terminal one line renews itself
+if command -v script >/dev/null; then
+    rm -rf fresh/target
+    PATH=$work/tools:$PATH script -qec 'fresh/linefiles survey samples/one-page.dsk' /dev/null </dev/null >terminal
+    tr '\r' '\n' <terminal | sed -E 's/[0-9]+:[0-9]{2}/TIME/' >told
+    holds wrapper-terminal grep -q '^linefiles: 1 of 3 crates proved, TIME so far; now screen' told
+    holds wrapper-terminal-one-line test "$(grep -c 'crates proved, TIME so far: ' told)" = 0
+fi
+rm -f fresh/slow
+# a program that a signal ends
+printf '#!/usr/bin/env bash\nkill -SEGV $$\n' >fresh/target/bin/linefiles
+touch -d '1 hour' fresh/target/bin/linefiles
+wrapped survey samples/one-page.dsk
+holds wrapper-signal test "$status $(tail -n 1 err)" = '2 linefiles: the program was ended by signal 11'
+
+# no line is over 80 columns but the command itself, an object of JSON, and a path
+long_lines() {
+    local file
+    for file in "$expected"/*; do
+        case ${file##*/} in *json* | *-sums) continue ;; esac
+        awk -v name="${file##*/}" 'length > 80 && !/^\$ / { print name ": " $0; bad = 1 } END { exit bad }' "$file" || return 1
+    done
+}
+holds lines-of-80 long_lines
 
 echo "$passed passed, $failed failed"
 [ "$failed" -eq 0 ]

@@ -1,7 +1,9 @@
 // What is said of an archive: its entries, without a disk, and where it differs from the archive of a disk.
 use libc::STDERR_FILENO;
 use libc::STDOUT_FILENO;
+use screen::BINARY;
 use screen::REFUSED;
+use screen::bytes_column;
 use screen::count;
 use screen::entry_columns;
 use screen::finish;
@@ -10,7 +12,6 @@ use screen::input;
 use screen::names;
 use screen::names::name;
 use screen::refusal;
-use screen::right;
 use screen::say;
 use screen::sums::next;
 use screen::tell;
@@ -33,7 +34,7 @@ fn twin_in_archive(archive: &[u8], first: u16, raw: &[u8]) -> bool {
 
 fn show_entry(archive: &[u8], block: u64, e: reader::Entry) {
     entry_columns(STDOUT_FILENO, e.locked, e.kind, e.count);
-    right(STDOUT_FILENO, e.size as u64, 9);
+    bytes_column(STDOUT_FILENO, e.kind == BINARY, e.size as u64);
     say(b"  ");
     name(STDOUT_FILENO, reader::entry_name(archive, block));
     say(b"\n");
@@ -65,7 +66,7 @@ fn show_entries(archive: &[u8], first: u16, raw: bool) -> u64 {
 
 fn refuse(why: u8, size: u64) -> u8 {
     refusal(STDERR_FILENO, why);
-    tell(b", these ");
+    tell(b"\n  these ");
     count(STDERR_FILENO, size, b"byte", b"bytes");
     tell(b" are the archive of no disk\n");
     REFUSED
@@ -77,7 +78,7 @@ pub fn show(from: &[u8], archive: &[u8], raw: bool) -> u8 {
     if o.refusal != 0 {
         return refuse(o.refusal, archive.len() as u64);
     }
-    input(from, b"archive", archive.len() as u64);
+    input(STDOUT_FILENO, from, b"archive", archive.len() as u64);
     text_number(STDOUT_FILENO, b"\n\nVolume ", o.volume as u64);
     say(b", ");
     count(STDOUT_FILENO, o.blocks as u64, b"block", b"blocks");
@@ -113,13 +114,12 @@ fn tell_cut(due: &[u8], archive: &[u8], block: u64, byte: usize) {
     if (other.len() != 30) | (reader::entry_at(due, block).found == 0) {
         return;
     }
-    tell(b": the name ");
+    tell(b"\n  the name ");
     name(STDERR_FILENO, reader::entry_name(due, block));
-    tell(b" is cut ");
-    names::cut(STDERR_FILENO, reader::entry_raw_name(due, block), false);
-    tell(b" on the disk and ");
-    names::cut(STDERR_FILENO, other, false);
-    tell(b" in the archive");
+    tell(b" is cut\n    on the disk                     ");
+    names::cut(STDERR_FILENO, reader::entry_raw_name(due, block), true);
+    tell(b"\n    in the archive                  ");
+    names::cut(STDERR_FILENO, other, true);
 }
 
 // Where an archive differs from that of the disk.
@@ -127,7 +127,7 @@ pub fn tell_difference(due: &[u8], archive: &[u8]) {
     let i = first_difference(due, archive);
     text_number(
         STDERR_FILENO,
-        b", the archives differ from block ",
+        b"\n  the archives differ from block ",
         (i / 256) as u64,
     );
     text_number(STDERR_FILENO, b", byte ", (i % 256) as u64);

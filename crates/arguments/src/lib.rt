@@ -1,8 +1,6 @@
-// The arguments: words and options, the commands, what is wrong with them, and the help text.
-mod help;
+// The arguments: words and options, the commands, and what is wrong with them. The help text stands in ./linefiles, which answers without the program.
 pub mod letters;
 
-pub use help::print_help;
 use libc::ENAMETOOLONG;
 use libc::STDERR_FILENO;
 use screen::TROUBLE;
@@ -29,8 +27,6 @@ pub const NIBBLIZE: u8 = 8;
 
 pub const DENIBBLIZE: u8 = 9;
 
-pub const HELP: u8 = 10;
-
 // The options.
 pub const FORCE: u8 = 1;
 
@@ -39,6 +35,17 @@ pub const AS_13: u8 = 2;
 pub const AS_16: u8 = 3;
 
 pub const RAW: u8 = 4;
+
+pub const JSON: u8 = 5;
+
+pub const SVG: u8 = 6;
+
+pub const ALL: u8 = 7;
+
+pub const EMPTY: u8 = 8;
+
+// `--`: what stands behind it is a word.
+const END: u8 = 9;
 
 // A word in a cell of a table: zeros behind it. A word that is longer than a cell is none of the table's, and its cell is empty.
 fn cell_of(w: &[u8]) -> [u8; 10] {
@@ -49,7 +56,7 @@ fn cell_of(w: &[u8]) -> [u8; 10] {
 
 // The number of the cell in a table, from 1 on; 0 where it has none.
 fn number_in(table: &[u8], cell: &[u8]) -> u8 {
-    for k in 0..11u8 {
+    for k in 0..9u8 {
         if lists::same(lists::part(table, 10 * (k as usize), 10), cell) {
             return k + 1;
         }
@@ -60,7 +67,7 @@ fn number_in(table: &[u8], cell: &[u8]) -> u8 {
 // The command of a word, 0 for none.
 pub fn command_of(w: &[u8]) -> u8 {
     let cell = cell_of(w);
-    let n = number_in(
+    number_in(
         b"list\0\0\0\0\0\0\
           survey\0\0\0\0\
           map\0\0\0\0\0\0\0\
@@ -69,15 +76,9 @@ pub fn command_of(w: &[u8]) -> u8 {
           check\0\0\0\0\0\
           show\0\0\0\0\0\0\
           nibblize\0\0\
-          denibblize\
-          help\0\0\0\0\0\0\
-          --help\0\0\0\0",
+          denibblize",
         &cell,
-    );
-    if HELP < n {
-        return HELP;
-    }
-    n
+    )
 }
 
 // The option that argument i is, 0 for none.
@@ -89,17 +90,42 @@ fn option_of(i: usize) -> u8 {
         b"--force\0\0\0\
           --13\0\0\0\0\0\0\
           --16\0\0\0\0\0\0\
-          --raw\0\0\0\0\0",
+          --raw\0\0\0\0\0\
+          --json\0\0\0\0\
+          --svg\0\0\0\0\0\
+          --all\0\0\0\0\0\
+          --empty\0\0\0\
+          --\0\0\0\0\0\0\0\0",
         &cell,
     )
 }
 
+// The place of `--` among the arguments from `first` on; past all that are looked at where there is none.
+fn end_of_options(first: usize) -> usize {
+    for i in 0..16usize {
+        let at = after(first, i);
+        if option_of(at) == END {
+            return at;
+        }
+    }
+    after(first, 16)
+}
+
+// The option that argument i is, where the options end at `end`.
+fn option_before(end: usize, i: usize) -> u8 {
+    if end < i {
+        return 0;
+    }
+    option_of(i)
+}
+
 // The place among the arguments of word k from `first` on, the options left out; past the end where there is none.
 fn word_place(first: usize, k: usize) -> usize {
+    let end = end_of_options(first);
     let mut left = k;
     for i in 0..16usize {
         let at = after(first, i);
-        if option_of(at) == 0 {
+        if option_before(end, at) == 0 {
             if left == 0 {
                 return at;
             }
@@ -116,8 +142,9 @@ pub fn word(first: usize, k: usize, buf: &mut [u8]) -> usize {
 }
 
 pub fn has_option(first: usize, option: u8) -> bool {
+    let end = end_of_options(first);
     for i in 0..16usize {
-        if option_of(after(first, i)) == option {
+        if option_before(end, after(first, i)) == option {
             return true;
         }
     }
@@ -135,11 +162,47 @@ pub fn said(first: usize) -> u8 {
     0
 }
 
-// How many words a command wants behind it.
-fn wants(command: u8) -> usize {
+// The word is `-`, which stands for standard input or standard output.
+pub fn is_dash(w: &[u8]) -> bool {
+    lists::same(w, b"-")
+}
+
+// Where a command has the name of its output among its words, 0 where it has none. That of `get --all` is a folder.
+pub fn out_word(command: u8, first: usize) -> usize {
     match command {
-        LIST | SURVEY | MAP | SHOW => 1,
-        GET => 3,
+        GET => {
+            if has_option(first, ALL) {
+                return 0;
+            }
+            3
+        }
+        MAP => {
+            if has_option(first, SVG) {
+                return 2;
+            }
+            0
+        }
+        ARCHIVE | NIBBLIZE | DENIBBLIZE => 2,
+        _ => 0,
+    }
+}
+
+// How many words a command wants behind it.
+fn wants(command: u8, first: usize) -> usize {
+    match command {
+        LIST | SURVEY | SHOW => 1,
+        MAP => {
+            if has_option(first, SVG) {
+                return 2;
+            }
+            1
+        }
+        GET => {
+            if has_option(first, ALL) {
+                return 2;
+            }
+            3
+        }
         _ => 2,
     }
 }
@@ -157,7 +220,7 @@ fn words(first: usize) -> usize {
 
 // The number of words behind a command is what it wants.
 pub fn has_words(command: u8, first: usize) -> bool {
-    (command == HELP) | (words(first) == wants(command))
+    words(first) == wants(command, first)
 }
 
 // The argument is longer than any that is taken.
@@ -176,14 +239,43 @@ pub fn has_long(first: usize) -> bool {
     false
 }
 
-pub fn unknown_command(w: &[u8]) -> u8 {
-    if 0 < w.len() {
-        tell(b"linefiles: there is no command ");
-        path(STDERR_FILENO, w);
-        tell(b"\n\n");
+// The argument begins as an option does, and is none.
+fn is_odd(i: usize) -> bool {
+    let mut w = io::buffer();
+    let n = os::arg(i, &mut w);
+    (1 < n) & ((lists::byte_at(&w, 0) == b'-') & (option_of(i) == 0))
+}
+
+// The place of the first argument that begins as an option does and is none; past all that are looked at where there is none.
+fn odd_place(first: usize) -> usize {
+    let end = end_of_options(first);
+    for i in 0..16usize {
+        let at = after(first, i);
+        if (at < end) & is_odd(at) {
+            return at;
+        }
     }
-    print_help(STDERR_FILENO);
-    tell(b"\n");
+    after(first, 16)
+}
+
+// Whether an option is said that there is not. Then this is said.
+pub fn unknown_option(first: usize) -> bool {
+    let at = odd_place(first);
+    if os::arg_count() <= at {
+        return false;
+    }
+    let mut w = io::buffer();
+    let n = os::arg(at, &mut w);
+    tell(b"linefiles: there is no option ");
+    path(STDERR_FILENO, lists::part(&w, 0, n));
+    tell(b"; behind -- it is a word\n");
+    true
+}
+
+pub fn unknown_command(w: &[u8]) -> u8 {
+    tell(b"linefiles: there is no command ");
+    path(STDERR_FILENO, w);
+    tell(b"; linefiles help names them\n");
     TROUBLE
 }
 
@@ -191,10 +283,12 @@ pub fn unknown_command(w: &[u8]) -> u8 {
 pub fn usage(command: u8) -> u8 {
     tell(b"usage: linefiles ");
     match command {
-        LIST => tell(b"list DISK [--raw] [--13 | --16]"),
-        SURVEY => tell(b"survey DISK [--13 | --16]"),
-        MAP => tell(b"map DISK [--13 | --16]"),
-        GET => tell(b"get DISK NAME OUT [--force] [--13 | --16]"),
+        LIST => tell(b"list DISK [--raw] [--json] [--13 | --16]"),
+        SURVEY => tell(b"survey DISK [--json] [--13 | --16]"),
+        MAP => tell(b"map DISK [--svg OUT [--force]] [--13 | --16]"),
+        GET => tell(
+            b"get DISK NAME OUT [--empty] [--force] [--13 | --16]\n       linefiles get DISK --all FOLDER [--empty] [--force] [--13 | --16]",
+        ),
         ARCHIVE => tell(b"archive DISK OUT [--force] [--13 | --16]"),
         CHECK => tell(b"check DISK ARCHIVE [--13 | --16]"),
         SHOW => tell(b"show ARCHIVE [--raw]"),
@@ -205,26 +299,50 @@ pub fn usage(command: u8) -> u8 {
     TROUBLE
 }
 
-// Whether --raw stands where it says nothing. Then this is said.
-pub fn wrong_raw(command: u8, first: usize) -> bool {
-    if (command == LIST) | ((command == SHOW) | !has_option(first, RAW)) {
-        return false;
+// The options of a command.
+fn takes(command: u8, option: u8) -> bool {
+    match option {
+        FORCE => (command == MAP)
+            | ((command == GET) | ((command == ARCHIVE) | (NIBBLIZE <= command))),
+        AS_13 | AS_16 => command != SHOW,
+        RAW => (command == LIST) | (command == SHOW),
+        JSON => (command == LIST) | (command == SURVEY),
+        SVG => command == MAP,
+        ALL | EMPTY => command == GET,
+        _ => true,
     }
-    tell(b"linefiles: --raw is for list and show, which print names\n");
-    true
 }
 
-// Whether the options for streams stand where they say nothing, or against each other. Then this is said.
+// The first option that is said and that the command does not take, 0 where there is none.
+fn misplaced(command: u8, first: usize) -> u8 {
+    for option in 1..9u8 {
+        if has_option(first, option) & !takes(command, option) {
+            return option;
+        }
+    }
+    0
+}
+
+fn tell_option(option: u8) {
+    match option {
+        FORCE => tell(b"--force: it writes no file"),
+        AS_13 => tell(b"--13: it reads no nibble stream"),
+        AS_16 => tell(b"--16: it reads no nibble stream"),
+        RAW => tell(b"--raw, which list and show do"),
+        JSON => tell(b"--json, which list and survey do"),
+        SVG => tell(b"--svg, which map does"),
+        ALL => tell(b"--all, which get does"),
+        _ => tell(b"--empty, which get does"),
+    }
+}
+
+// Whether an option stands where it says nothing, or two against each other. Then this is said.
 pub fn wrong_options(command: u8, first: usize) -> bool {
-    if said(first) == 0 {
-        return false;
-    }
-    if command == SHOW {
-        tell(b"linefiles: --13 and --16 are for nibble streams; show reads an archive\n");
-        return true;
-    }
-    if command == HELP {
-        tell(b"linefiles: --13 and --16 are for nibble streams; help reads none\n");
+    let option = misplaced(command, first);
+    if option != 0 {
+        tell(b"linefiles: this command does not take ");
+        tell_option(option);
+        tell(b"\n");
         return true;
     }
     if has_option(first, AS_13) & has_option(first, AS_16) {

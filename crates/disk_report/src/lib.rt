@@ -1,12 +1,15 @@
-// What is said of a flat disk: its files with the links to them, and its survey.
+// What is said of a flat disk: its files with the links to them, and its survey, as text or as the rest of an object of JSON whose front says what was read.
+use file_walk::Purpose;
 use file_walk::follow_files;
 use file_walk::refuse;
 use libc::STDOUT_FILENO;
 use outcome::NO_TABLE;
 use page_walk::follow_pages;
+use screen::GOOD;
 use screen::count;
 use screen::finish;
 use screen::heads;
+use screen::json;
 use screen::right;
 use screen::say;
 use screen::text_number;
@@ -18,7 +21,7 @@ fn space() -> [u8; 1048576] {
 }
 
 // The links of the VTOC and the pages, then the files with their lists.
-fn list_links(disk: &[u8], fetch: bool, raw: bool, archive: &[u8]) {
+fn list_links(disk: &[u8], to_do: Purpose, archive: &[u8]) {
     let v = disk::parse_volume_table_of_contents(disk);
     text_number(
         STDOUT_FILENO,
@@ -31,10 +34,10 @@ fn list_links(disk: &[u8], fetch: bool, raw: bool, archive: &[u8]) {
         catalog::first_page(disk, disk::sectors_of(disk)),
     );
     say(b"\n");
-    if follow_pages(disk, 0) == 0 {
+    if follow_pages(disk, 0, false) == 0 {
         say(b"\nFiles\n");
         heads(STDOUT_FILENO);
-        follow_files(disk, 0, fetch, raw, archive);
+        follow_files(disk, to_do, archive);
     }
 }
 
@@ -63,24 +66,83 @@ fn may_fetch(refused: u8, entries: u32, links: u64) -> bool {
     (refused == 0) & (links <= 4000000 / (entries as u64 + 1))
 }
 
+// The same links as JSON.
+fn object_links(disk: &[u8], to_do: Purpose, archive: &[u8]) {
+    let v = disk::parse_volume_table_of_contents(disk);
+    text_number(
+        STDOUT_FILENO,
+        b",\n  \"volume\": ",
+        v.diskette_volume_number as u64,
+    );
+    say(b",\n  \"pages\": [");
+    let refusal = follow_pages(disk, 0, true);
+    say(b"\n  ],\n  \"files\": [");
+    if refusal == 0 {
+        follow_files(disk, to_do, archive);
+    }
+    say(b"\n  ]");
+}
+
+fn object_end(s: files::DiskSurvey) -> u8 {
+    say(b",\n  \"links\": ");
+    json::known(s.refusal == 0, s.links);
+    finish(b"\n}\n")
+}
+
+fn show_links(disk: &[u8], to_do: Purpose, archive: &[u8]) {
+    if to_do.object {
+        object_links(disk, to_do, archive);
+        return;
+    }
+    list_links(disk, to_do, archive);
+}
+
+fn show_end(disk: &[u8], object: bool, s: files::DiskSurvey) -> u8 {
+    if object {
+        return object_end(s);
+    }
+    if s.refusal != 0 {
+        return GOOD;
+    }
+    list_end(disk, s.entries as u64, s.links)
+}
+
+// A disk without a table, or one that a stream does not hold: nothing is listed.
+pub fn none_listed(refusal: u8) {
+    json::refusal(refusal);
+    say(b",\n  \"volume\": null,\n  \"pages\": [],\n  \"files\": [],\n  \"links\": null\n}\n");
+}
+
+fn refuse_table(disk: &[u8], object: bool) -> u8 {
+    if object {
+        none_listed(NO_TABLE);
+    }
+    refuse(disk, NO_TABLE)
+}
+
 // Lists the files of a disk, or says why it is refused.
-pub fn list(disk: &[u8], raw: bool) -> u8 {
+pub fn list(disk: &[u8], raw: bool, object: bool) -> u8 {
     let s = files::survey(disk);
     if s.refusal == NO_TABLE {
-        return refuse(disk, NO_TABLE);
+        return refuse_table(disk, object);
+    }
+    if object {
+        json::refusal(s.refusal);
     }
     let mut out = space();
     let h = writer::write_archive(disk, &mut out);
-    list_links(
-        disk,
-        may_fetch(s.refusal, s.entries, s.links),
-        raw,
-        lists::part(&out, 0, h.length),
-    );
+    let to_do = Purpose {
+        why: 0,
+        object: object,
+        raw: raw,
+        fetch: may_fetch(s.refusal, s.entries, s.links),
+    };
+    show_links(disk, to_do, lists::part(&out, 0, h.length));
+    let status = show_end(disk, object, s);
     if s.refusal != 0 {
         return refuse(disk, s.refusal);
     }
-    list_end(disk, s.entries as u64, s.links)
+    status
 }
 
 fn survey_line(what: &[u8], n: u64) {
@@ -88,11 +150,7 @@ fn survey_line(what: &[u8], n: u64) {
     right(STDOUT_FILENO, n, 9);
 }
 
-pub fn survey(disk: &[u8]) -> u8 {
-    let s = files::survey(disk);
-    if s.refusal != 0 {
-        return refuse(disk, s.refusal);
-    }
+fn survey_lines(s: files::DiskSurvey) -> u8 {
     survey_line(b"\n  volume        ", s.volume as u64);
     survey_line(b"\n  entries       ", s.entries as u64);
     survey_line(b"\n  free sectors  ", s.free as u64);
@@ -101,4 +159,50 @@ pub fn survey(disk: &[u8]) -> u8 {
     survey_line(b"\n  archive blocks", s.archive_blocks);
     survey_line(b"\n  links followed", s.links);
     finish(b"\n")
+}
+
+// A key of the survey, whose value is null where the disk is refused.
+fn survey_key(key: &[u8], known: bool, n: u64) {
+    say(b",\n  \"");
+    say(key);
+    say(b"\": ");
+    json::known(known, n);
+}
+
+fn survey_keys(known: bool, s: files::DiskSurvey) -> u8 {
+    survey_key(b"volume", known, s.volume as u64);
+    survey_key(b"entries", known, s.entries as u64);
+    survey_key(b"free", known, s.free as u64);
+    survey_key(b"used", known, s.used as u64);
+    survey_key(b"percent_used", known, s.percent_used as u64);
+    survey_key(b"archive_blocks", known, s.archive_blocks);
+    survey_key(b"links", known, s.links);
+    finish(b"\n}\n")
+}
+
+// A disk that a stream does not hold: nothing is surveyed.
+pub fn none_surveyed(refusal: u8) {
+    json::refusal(refusal);
+    let s = files::survey(b"");
+    survey_keys(false, s);
+}
+
+fn show_survey(s: files::DiskSurvey, object: bool) -> u8 {
+    if object {
+        json::refusal(s.refusal);
+        return survey_keys(s.refusal == 0, s);
+    }
+    if s.refusal != 0 {
+        return GOOD;
+    }
+    survey_lines(s)
+}
+
+pub fn survey(disk: &[u8], object: bool) -> u8 {
+    let s = files::survey(disk);
+    let status = show_survey(s, object);
+    if s.refusal != 0 {
+        return refuse(disk, s.refusal);
+    }
+    status
 }

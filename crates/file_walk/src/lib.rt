@@ -1,5 +1,5 @@
-// The files of a disk and the lists of each, followed once more for people: each is shown on standard output, or the place where a refusal is met is told on
-// standard error. The library has judged the disk before; here nothing is decided.
+// The files of a disk and the lists of each, followed once more for people: each is shown on standard output, as text or as JSON, or the place where a refusal
+// is met is told on standard error. The library has judged the disk before; here nothing is decided.
 use catalog::FileEntry;
 use catalog::entry_start;
 use catalog::first_page;
@@ -20,14 +20,19 @@ use lists::byte_at;
 use outcome::CUT_LINK;
 use outcome::NO_TABLE;
 use outcome::OFF_DISC;
+use outcome::OVERLONG;
 use outcome::RING;
 use page_walk::bad_link;
 use page_walk::follow_pages;
 use page_walk::is_live;
 use page_walk::last_link;
+use page_walk::link_object;
 use page_walk::twin_on_disk;
+use screen::BINARY;
 use screen::REFUSED;
+use screen::bytes_column;
 use screen::entry_columns;
+use screen::json;
 use screen::names;
 use screen::names::shown_name;
 use screen::place_column;
@@ -41,6 +46,15 @@ use screen::tell;
 use screen::text_number;
 use screen::text_place;
 use screen::vtoc;
+
+// What the walk is for: `why` is 0 to show the files, or the refusal whose place is to be told. `object`: as JSON. `raw` asks for all names as they are cut;
+// `fetch` says that each file may be fetched.
+pub struct Purpose {
+    pub why: u8,
+    pub object: bool,
+    pub raw: bool,
+    pub fetch: bool,
+}
 
 // How far the walk over the entries has come: the first refusal, how many entries there were, and the next entry's block in the archive.
 pub struct Step {
@@ -75,6 +89,23 @@ fn list_line(disk: &[u8], per: u8, p: Place) {
     say(b"\n");
 }
 
+// The same as JSON. k lists stand before it.
+fn list_object(disk: &[u8], per: u8, p: Place, k: u16) {
+    json::element(k as u64);
+    say(b"  ");
+    json::place(p);
+    text_number(STDOUT_FILENO, b", \"pairs\": ", pairs_in(disk, p));
+    link_object(disk, per, p);
+}
+
+fn show_list(disk: &[u8], per: u8, object: bool, k: u16, p: Place) {
+    if object {
+        list_object(disk, per, p, k);
+        return;
+    }
+    list_line(disk, per, p);
+}
+
 // Why a list cannot be reached by a link: 3, 4, or 0.
 fn list_refusal(per: u8, p: Place, seen: &[u8]) -> u8 {
     if !on_disk(per, p) {
@@ -97,7 +128,7 @@ fn link_refusal(disk: &[u8], per: u8, p: Place) -> u8 {
 
 // The entry in which a refusal is met.
 fn tell_entry(entries: u64, e: FileEntry) {
-    text_number(STDERR_FILENO, b", file ", next(entries));
+    text_number(STDERR_FILENO, b"\n  file ", next(entries));
     tell(b" ");
     shown_name(STDERR_FILENO, e.name);
     tell(b": ");
@@ -124,7 +155,7 @@ fn link_stop(disk: &[u8], per: u8, p: Place, entries: u64, e: FileEntry) {
 fn at_list(
     disk: &[u8],
     per: u8,
-    why: u8,
+    to_do: Purpose,
     refusal: u8,
     lists: u16,
     from: Place,
@@ -132,13 +163,13 @@ fn at_list(
     entries: u64,
     e: FileEntry,
 ) {
-    if why == 0 {
+    if to_do.why == 0 {
         if refusal == 0 {
-            list_line(disk, per, to);
+            show_list(disk, per, to_do.object, lists, to);
         }
         return;
     }
-    if (refusal != 0) & (why == refusal) {
+    if (refusal != 0) & (to_do.why == refusal) {
         list_stop(refusal, lists, from, to, entries, e);
     }
 }
@@ -150,12 +181,19 @@ fn at_link(disk: &[u8], per: u8, why: u8, refusal: u8, p: Place, entries: u64, e
 }
 
 // Follows the lists of an entry: the first refusal met, or 0. `seen` is all zeros.
-fn follow_lists(disk: &[u8], per: u8, why: u8, entries: u64, e: FileEntry, seen: &mut [u8]) -> u8 {
+fn follow_lists(
+    disk: &[u8],
+    per: u8,
+    to_do: Purpose,
+    entries: u64,
+    e: FileEntry,
+    seen: &mut [u8],
+) -> u8 {
     let mut p = e.list;
     let mut from = p;
     for k in 0..561u16 {
         let reached = list_refusal(per, p, seen);
-        at_list(disk, per, why, reached, k, from, p, entries, e);
+        at_list(disk, per, to_do, reached, k, from, p, entries, e);
         if reached != 0 {
             return reached;
         }
@@ -163,7 +201,7 @@ fn follow_lists(disk: &[u8], per: u8, why: u8, entries: u64, e: FileEntry, seen:
             return 0;
         }
         let refusal = link_refusal(disk, per, p);
-        at_link(disk, per, why, refusal, p, entries, e);
+        at_link(disk, per, to_do.why, refusal, p, entries, e);
         if refusal != 0 {
             return refusal;
         }
@@ -228,27 +266,59 @@ fn space() -> [u8; 66000] {
     [0; 66000]
 }
 
-// The bytes of an entry: as the archive has them; where there is no archive, as the file is handed over, if it may be fetched.
-fn bytes_column(disk: &[u8], fetch: bool, found: reader::Entry, entries: u64) {
-    if found.found == 1 {
-        right(STDOUT_FILENO, found.size as u64, 9);
-        return;
-    }
-    if fetch {
-        let mut out = space();
-        let h = files::file(disk, entries, &mut out);
-        right(STDOUT_FILENO, h.length as u64, 9);
-        return;
-    }
-    say(b"        -");
+// The bytes of an entry: whether they are known, and how many there are.
+struct Bytes {
+    known: bool,
+    number: u64,
 }
 
-fn entry_line(disk: &[u8], fetch: bool, found: reader::Entry, entries: u64, e: FileEntry) {
+// As the archive has them; where there is no archive, as the file is handed over, if it may be fetched. Only a Binary hands over bytes.
+fn bytes_of(disk: &[u8], fetch: bool, found: reader::Entry, entries: u64, e: FileEntry) -> Bytes {
+    if e.file_type == BINARY {
+        if found.found == 1 {
+            return Bytes {
+                known: true,
+                number: found.size as u64,
+            };
+        }
+        if fetch {
+            let mut out = space();
+            let h = files::file(disk, entries, &mut out);
+            return Bytes {
+                known: true,
+                number: h.length as u64,
+            };
+        }
+    }
+    Bytes {
+        known: false,
+        number: 0,
+    }
+}
+
+fn entry_line(e: FileEntry, b: Bytes) {
     entry_columns(STDOUT_FILENO, e.locked, e.file_type, e.count);
-    bytes_column(disk, fetch, found, entries);
+    bytes_column(STDOUT_FILENO, b.known, b.number);
     say(b"  ");
     shown_name(STDOUT_FILENO, e.name);
     say(b"\n");
+}
+
+// The same as JSON, its array of lists open. k entries stand before it.
+fn entry_object(k: u64, e: FileEntry, b: Bytes, name: &[u8]) {
+    json::element(k);
+    say(b"{\"name\": ");
+    json::shown_name(e.name);
+    say(b", \"raw_name\": ");
+    json::hex(name);
+    say(b", \"type\": ");
+    json::kind(e.file_type);
+    say(b", \"locked\": ");
+    json::boolean(e.locked != 0);
+    text_number(STDOUT_FILENO, b", \"sectors\": ", e.count as u64);
+    say(b", \"bytes\": ");
+    json::known(b.known, b.number);
+    say(b", \"lists\": [");
 }
 
 // The name as it is cut, where `raw` asks for all names or another name shows alike.
@@ -258,37 +328,47 @@ fn cut_line(disk: &[u8], raw: bool, name: &[u8]) {
     }
 }
 
+fn show_entry(
+    disk: &[u8],
+    to_do: Purpose,
+    found: reader::Entry,
+    k: u64,
+    e: FileEntry,
+    name: &[u8],
+) {
+    let b = bytes_of(disk, to_do.fetch, found, k, e);
+    if to_do.object {
+        entry_object(k, e, b, name);
+        return;
+    }
+    entry_line(e, b);
+    cut_line(disk, to_do.raw, name);
+}
+
 // Follows the lists of an entry, then looks at its pairs.
-fn follow_file(disk: &[u8], per: u8, why: u8, entries: u64, e: FileEntry) -> u8 {
+fn follow_file(disk: &[u8], per: u8, to_do: Purpose, entries: u64, e: FileEntry) -> u8 {
     let mut seen = [0u8; 560];
-    let refusal = follow_lists(disk, per, why, entries, e, &mut seen);
+    let refusal = follow_lists(disk, per, to_do, entries, e, &mut seen);
     if refusal != 0 {
         return refusal;
     }
-    follow_pairs(disk, per, why, entries, e)
+    follow_pairs(disk, per, to_do.why, entries, e)
 }
 
 // Follows the entry from x on, if it is in use.
-fn follow_entry(
-    disk: &[u8],
-    per: u8,
-    why: u8,
-    fetch: bool,
-    raw: bool,
-    archive: &[u8],
-    x: usize,
-    s: Step,
-) -> Step {
+fn follow_entry(disk: &[u8], per: u8, to_do: Purpose, archive: &[u8], x: usize, s: Step) -> Step {
     if (s.refusal != 0) | !is_live(disk, x) {
         return s;
     }
     let e = parse_file_entry(disk, x);
     let found = reader::next_entry(archive, s.block);
-    if why == 0 {
-        entry_line(disk, fetch, found, s.entries, e);
-        cut_line(disk, raw, raw_name(disk, x));
+    if to_do.why == 0 {
+        show_entry(disk, to_do, found, s.entries, e, raw_name(disk, x));
     }
-    let refusal = follow_file(disk, per, why, s.entries, e);
+    let refusal = follow_file(disk, per, to_do, s.entries, e);
+    if to_do.object {
+        say(b"\n    ]}");
+    }
     Step {
         refusal: refusal,
         entries: next(s.entries),
@@ -299,9 +379,7 @@ fn follow_entry(
 fn follow_page(
     disk: &[u8],
     per: u8,
-    why: u8,
-    fetch: bool,
-    raw: bool,
+    to_do: Purpose,
     archive: &[u8],
     p: Place,
     before: Step,
@@ -309,14 +387,13 @@ fn follow_page(
     let mut s = before;
     for i in 0..7u8 {
         let x = entry_start(per, p, i);
-        s = follow_entry(disk, per, why, fetch, raw, archive, x, s);
+        s = follow_entry(disk, per, to_do, archive, x, s);
     }
     s
 }
 
-// Follows the entries of all pages, which were followed before: the first refusal met, or 0. `archive` is that of the disk, or empty; `raw` asks for all names as
-// they are cut.
-pub fn follow_files(disk: &[u8], why: u8, fetch: bool, raw: bool, archive: &[u8]) -> u8 {
+// Follows the entries of all pages, which were followed before: the first refusal met, or 0. `archive` is that of the disk, or empty.
+pub fn follow_files(disk: &[u8], to_do: Purpose, archive: &[u8]) -> u8 {
     let per = sectors_of(disk);
     let mut p = first_page(disk, per);
     let mut s = Step {
@@ -325,7 +402,7 @@ pub fn follow_files(disk: &[u8], why: u8, fetch: bool, raw: bool, archive: &[u8]
         block: 1,
     };
     for k in 0..560u16 {
-        s = follow_page(disk, per, why, fetch, raw, archive, p, s);
+        s = follow_page(disk, per, to_do, archive, p, s);
         if last_page(disk, per, p) {
             return s.refusal;
         }
@@ -339,13 +416,13 @@ fn tell_table(disk: &[u8], per: u8) {
     let sectors = disk::byte_of(disk, per, vtoc(), 53);
     text_number(
         STDERR_FILENO,
-        b", the VTOC at 17/0 says ",
+        b"\n  the VTOC at 17/0 says ",
         disk::byte_of(disk, per, vtoc(), 52) as u64,
     );
     text_number(STDERR_FILENO, b" tracks of ", sectors as u64);
     tell(b" sectors");
     if (per == 13) & (sectors != 13) {
-        tell(b"; on a disk of 13 sectors a track it must say 13");
+        tell(b";\n  on a disk of 13 sectors a track it must say 13");
     }
 }
 
@@ -355,8 +432,14 @@ fn tell_place(disk: &[u8], why: u8) {
         tell_table(disk, disk::sectors_of(disk));
         return;
     }
-    if follow_pages(disk, why) == 0 {
-        follow_files(disk, why, false, false, b"");
+    if follow_pages(disk, why, false) == 0 {
+        let to_do = Purpose {
+            why: why,
+            object: false,
+            raw: false,
+            fetch: false,
+        };
+        follow_files(disk, to_do, b"");
     }
 }
 
@@ -365,5 +448,17 @@ pub fn refuse(disk: &[u8], why: u8) -> u8 {
     refusal(STDERR_FILENO, why);
     tell_place(disk, why);
     tell(b"\n");
+    REFUSED
+}
+
+// Says that the archive of a disk would be too long.
+pub fn refuse_overlong(disk: &[u8]) -> u8 {
+    refusal(STDERR_FILENO, OVERLONG);
+    text_number(
+        STDERR_FILENO,
+        b"\n  the archive would have ",
+        files::survey(disk).archive_blocks,
+    );
+    tell(b" blocks, and the most is 4096\n");
     REFUSED
 }

@@ -1,41 +1,45 @@
-// The program that people run: it reads a disk, a nibble stream or an archive, calls the libraries, and prints. `help` says what it does.
+// The program that people run: it reads a disk, a nibble stream or an archive, calls the libraries, and prints. `./linefiles help` says what it does.
 // A program of the kit has no exit status. So with `--status` as its first argument it writes the status, a digit, to descriptor 3: ./linefiles reads it there.
+use arguments::ALL;
 use arguments::ARCHIVE;
 use arguments::CHECK;
 use arguments::DENIBBLIZE;
+use arguments::EMPTY;
 use arguments::FORCE;
 use arguments::GET;
-use arguments::HELP;
+use arguments::JSON;
 use arguments::LIST;
 use arguments::MAP;
 use arguments::NIBBLIZE;
 use arguments::RAW;
 use arguments::SHOW;
 use arguments::SURVEY;
+use arguments::SVG;
 use arguments::command_of;
 use arguments::has_long;
 use arguments::has_option;
 use arguments::has_words;
-use arguments::letters::unescape;
-use arguments::print_help;
+use arguments::is_dash;
+use arguments::out_word;
 use arguments::said;
 use arguments::unknown_command;
+use arguments::unknown_option;
 use arguments::usage;
 use arguments::word;
 use arguments::wrong_options;
-use arguments::wrong_raw;
 use file_walk::refuse;
+use file_walk::refuse_overlong;
 use libc::STDERR_FILENO;
 use libc::STDOUT_FILENO;
 use outcome::NOT_ITS_RETURN;
-use outcome::NOT_ON_ROLL;
 use outcome::OVERLONG;
 use screen::GOOD;
 use screen::REFUSED;
 use screen::TROUBLE;
 use screen::finish;
 use screen::input;
-use screen::names::path;
+use screen::json;
+use screen::names;
 use screen::refusal;
 use screen::say;
 use screen::tell;
@@ -44,7 +48,7 @@ use screen::text_number;
 use storing::read_file;
 use storing::write_file;
 
-// Space for the longest archive, 4,096 blocks.
+// Space for the longest archive, 4,096 blocks, and for the longest picture.
 fn space() -> [u8; 1048576] {
     [0; 1048576]
 }
@@ -59,55 +63,6 @@ fn stream_space() -> [u8; 232960] {
     [0; 232960]
 }
 
-// Space for the longest file.
-fn file_space() -> [u8; 66000] {
-    [0; 66000]
-}
-
-fn refuse_overlong(blocks: u64) -> u8 {
-    refusal(STDERR_FILENO, OVERLONG);
-    text_number(STDERR_FILENO, b", the archive would have ", blocks);
-    tell(b" blocks, and the most is 4096\n");
-    REFUSED
-}
-
-fn draw_map(disk: &[u8]) -> u8 {
-    let s = files::survey(disk);
-    if s.refusal != 0 {
-        return refuse(disk, s.refusal);
-    }
-    picture::draw(disk);
-    finish(b"\n")
-}
-
-fn refuse_name(shown: &[u8]) -> u8 {
-    refusal(STDERR_FILENO, NOT_ON_ROLL);
-    tell(b", no file is named ");
-    path(STDERR_FILENO, shown);
-    tell(b"\n");
-    REFUSED
-}
-
-fn get(disk: &[u8], first: usize) -> u8 {
-    let mut shown = io::buffer();
-    let n = word(first, 2, &mut shown);
-    let mut wanted = [0u8; 31];
-    let name = lists::part(&shown, 0, n);
-    let k = unescape(name, &mut wanted);
-    let mut out = file_space();
-    let h = files::fetch(disk, lists::part(&wanted, 0, k), &mut out);
-    if h.refusal == NOT_ON_ROLL {
-        return refuse_name(name);
-    }
-    if h.refusal != 0 {
-        return refuse(disk, h.refusal);
-    }
-    if h.length == 0 {
-        say(b"this file hands over no bytes; only those of type B do\n");
-    }
-    save_word(first, 3, lists::part(&out, 0, h.length))
-}
-
 // Saves to the file that word k names.
 fn save_word(first: usize, k: usize, bytes: &[u8]) -> u8 {
     let mut out = io::buffer();
@@ -115,11 +70,57 @@ fn save_word(first: usize, k: usize, bytes: &[u8]) -> u8 {
     write_file(lists::part(&out, 0, n), bytes, has_option(first, FORCE))
 }
 
+fn draw_svg(disk: &[u8], from: &[u8], first: usize) -> u8 {
+    let mut out = space();
+    let n = svg::draw(disk, from, &mut out);
+    save_word(first, 2, lists::part(&out, 0, n))
+}
+
+fn draw_map(disk: &[u8], from: &[u8], first: usize) -> u8 {
+    let s = files::survey(disk);
+    if s.refusal != 0 {
+        return refuse(disk, s.refusal);
+    }
+    if has_option(first, SVG) {
+        return draw_svg(disk, from, first);
+    }
+    picture::draw(disk);
+    finish(b"\n")
+}
+
+fn get_one(disk: &[u8], first: usize) -> u8 {
+    let mut shown = io::buffer();
+    let n = word(first, 2, &mut shown);
+    let mut to = io::buffer();
+    let k = word(first, 3, &mut to);
+    fetching::get(
+        disk,
+        lists::part(&shown, 0, n),
+        lists::part(&to, 0, k),
+        has_option(first, EMPTY),
+        has_option(first, FORCE),
+    )
+}
+
+fn get(disk: &[u8], first: usize) -> u8 {
+    if !has_option(first, ALL) {
+        return get_one(disk, first);
+    }
+    let mut folder = io::buffer();
+    let n = word(first, 2, &mut folder);
+    fetching::get_all(
+        disk,
+        lists::part(&folder, 0, n),
+        has_option(first, EMPTY),
+        has_option(first, FORCE),
+    )
+}
+
 fn write_archive(disk: &[u8], first: usize) -> u8 {
     let mut out = space();
     let h = writer::write_archive(disk, &mut out);
     if h.refusal == OVERLONG {
-        return refuse_overlong(files::survey(disk).archive_blocks);
+        return refuse_overlong(disk);
     }
     if h.refusal != 0 {
         return refuse(disk, h.refusal);
@@ -144,7 +145,7 @@ fn check_bytes(disk: &[u8], archive: &[u8]) -> u8 {
         return refuse_archive(disk, archive);
     }
     if why == OVERLONG {
-        return refuse_overlong(files::survey(disk).archive_blocks);
+        return refuse_overlong(disk);
     }
     refuse(disk, why)
 }
@@ -165,18 +166,18 @@ fn nibblize(disk: &[u8], first: usize) -> u8 {
     let h = nibblize::nibblize(disk, &mut out);
     if h.refusal != 0 {
         refusal(STDERR_FILENO, h.refusal);
-        tell(b", streams of 13 sectors a track are read, not written\n");
+        tell(b"\n  streams of 13 sectors a track are read, not written\n");
         return REFUSED;
     }
     save_word(first, 2, lists::part(&out, 0, h.length))
 }
 
-// A command on a flat disk.
-fn on_flat(command: u8, disk: &[u8], first: usize) -> u8 {
+// A command on a flat disk, which was read from `from`.
+fn on_flat(command: u8, from: &[u8], disk: &[u8], first: usize) -> u8 {
     match command {
-        LIST => disk_report::list(disk, has_option(first, RAW)),
-        SURVEY => disk_report::survey(disk),
-        MAP => draw_map(disk),
+        LIST => disk_report::list(disk, has_option(first, RAW), has_option(first, JSON)),
+        SURVEY => disk_report::survey(disk, has_option(first, JSON)),
+        MAP => draw_map(disk, from, first),
         GET => get(disk, first),
         ARCHIVE => write_archive(disk, first),
         CHECK => check(disk, first),
@@ -185,17 +186,73 @@ fn on_flat(command: u8, disk: &[u8], first: usize) -> u8 {
     }
 }
 
+// Word k is `-`.
+fn has_dash(first: usize, k: usize) -> bool {
+    let mut w = io::buffer();
+    let n = word(first, k, &mut w);
+    is_dash(lists::part(&w, 0, n))
+}
+
+// Where it is said what was read: on standard output, or on standard error where the output itself goes there.
+fn notes_to(command: u8, first: usize) -> i32 {
+    if has_dash(first, out_word(command, first)) {
+        return STDERR_FILENO;
+    }
+    STDOUT_FILENO
+}
+
+// The front of an object of JSON: what was read, and by what its sectors a track go.
+fn object_front(from: &[u8], form: &[u8], size: u64, per: u8) {
+    say(b"{\n  \"file\": ");
+    json::string(from);
+    say(b",\n  \"form\": ");
+    json::string(form);
+    text_number(STDOUT_FILENO, b",\n  \"bytes\": ", size);
+    text_number(STDOUT_FILENO, b",\n  \"sectors_per_track\": ", per as u64);
+    say(b",\n  \"taken_by\": ");
+}
+
+// The sectors a track of another disk that a stream holds too.
+fn object_other(held: u8) {
+    say(b",\n  \"other_disk\": ");
+    json::known(held != 0, held as u64);
+}
+
+// The rest of an object where a stream holds no disk.
+fn object_refused(command: u8, why: u8) {
+    object_other(0);
+    if command == LIST {
+        disk_report::none_listed(why);
+        return;
+    }
+    disk_report::none_surveyed(why);
+}
+
 // A command on a nibble stream: it is denibblized first.
-fn on_stream(command: u8, bytes: &[u8], per: u8, guessed: bool, first: usize) -> u8 {
+fn on_stream(command: u8, from: &[u8], bytes: &[u8], per: u8, guessed: bool, first: usize) -> u8 {
     let mut image = disk_space();
     let h = stream_report::denibblize_by(bytes, per, &mut image);
     if h.refusal != 0 {
+        if has_option(first, JSON) {
+            object_refused(command, h.refusal);
+        }
         return stream_report::refuse(bytes, h.refusal, per, guessed);
     }
-    if guessed {
-        stream_report::say_other(bytes, per);
+    let held = stream_report::other_held(bytes, per, guessed);
+    if has_option(first, JSON) {
+        object_other(held);
+    } else {
+        stream_report::say_other(notes_to(command, first), held);
     }
-    on_flat(command, lists::part(&image, 0, h.length), first)
+    on_flat(command, from, lists::part(&image, 0, h.length), first)
+}
+
+// What is said of a stream before it is read.
+fn say_stream(fd: i32, from: &[u8], size: u64, per: u8, guessed: bool, mark: u8) {
+    input(fd, from, b"taken as a nibble stream", size);
+    text(fd, b",\n  ");
+    stream_report::say_sectors(fd, per);
+    stream_report::say_reason(fd, per, guessed, mark);
 }
 
 // A file that is taken as a nibble stream. The first line says so.
@@ -203,14 +260,40 @@ fn as_stream(command: u8, from: &[u8], bytes: &[u8], first: usize) -> u8 {
     let told = said(first);
     let mark = fields::recognize_prologue(bytes);
     let per = stream_report::taken_by(told, mark);
-    input(from, b"taken as a nibble stream", bytes.len() as u64);
-    stream_report::say_sectors(per);
-    stream_report::say_reason(per, told == 0, mark);
-    on_stream(command, bytes, per, told == 0, first)
+    let size = bytes.len() as u64;
+    if has_option(first, JSON) {
+        object_front(from, b"nibble stream", size, per);
+        stream_report::reason_string(told == 0, mark);
+    } else {
+        say_stream(notes_to(command, first), from, size, per, told == 0, mark);
+    }
+    on_stream(command, from, bytes, per, told == 0, first)
 }
 
 fn is_flat(bytes: &[u8]) -> bool {
     (bytes.len() == 143360) | (bytes.len() == 116480)
+}
+
+// What is said of a flat disk before it is read.
+fn say_flat(fd: i32, from: &[u8], size: u64, per: u8) {
+    input(fd, from, b"flat disk", size);
+    text(fd, b", ");
+    stream_report::say_sectors(fd, per);
+    text(fd, b"\n");
+}
+
+// A file that is a flat disk by its length.
+fn as_flat(command: u8, from: &[u8], bytes: &[u8], first: usize) -> u8 {
+    let per = disk::sectors_of(bytes);
+    let size = bytes.len() as u64;
+    if has_option(first, JSON) {
+        object_front(from, b"flat", size, per);
+        json::string(b"length");
+        object_other(0);
+    } else {
+        say_flat(notes_to(command, first), from, size, per);
+    }
+    on_flat(command, from, bytes, first)
 }
 
 // A command on a disk: flat, or by its length a nibble stream. The first line says which.
@@ -219,15 +302,12 @@ fn on_disk(command: u8, from: &[u8], bytes: &[u8], first: usize) -> u8 {
         return as_stream(command, from, bytes, first);
     }
     if said(first) != 0 {
-        tell(b"linefiles: --13 and --16 are for nibble streams; ");
-        path(STDERR_FILENO, from);
-        tell(b" is a flat disk by its length\n");
+        tell(b"linefiles: ");
+        names::input(STDERR_FILENO, from);
+        tell(b" is a flat disk by its length;\n  --13 and --16 are for nibble streams\n");
         return TROUBLE;
     }
-    input(from, b"flat disk", bytes.len() as u64);
-    stream_report::say_sectors(disk::sectors_of(bytes));
-    say(b"\n");
-    on_flat(command, bytes, first)
+    as_flat(command, from, bytes, first)
 }
 
 // Reads the file that the command is about, and goes on with its bytes.
@@ -247,10 +327,27 @@ fn act(command: u8, first: usize) -> u8 {
     on_disk(command, path, bytes, first)
 }
 
+fn run_command(command: u8, first: usize) -> u8 {
+    if !has_words(command, first) {
+        return usage(command);
+    }
+    if wrong_options(command, first) {
+        return TROUBLE;
+    }
+    if (command == CHECK) & (has_dash(first, 1) & has_dash(first, 2)) {
+        tell(b"linefiles: disk and archive cannot both be standard input\n");
+        return TROUBLE;
+    }
+    act(command, first)
+}
+
 // Runs the command that stands among the arguments at `first`: the exit status.
 fn run(first: usize) -> u8 {
     if has_long(first) {
         tell(b"linefiles: an argument is longer than 4096 bytes\n");
+        return TROUBLE;
+    }
+    if unknown_option(first) {
         return TROUBLE;
     }
     let mut w = io::buffer();
@@ -261,23 +358,6 @@ fn run(first: usize) -> u8 {
         return unknown_command(name);
     }
     run_command(command, first)
-}
-
-fn run_command(command: u8, first: usize) -> u8 {
-    if !has_words(command, first) {
-        return usage(command);
-    }
-    if wrong_options(command, first) {
-        return TROUBLE;
-    }
-    if wrong_raw(command, first) {
-        return TROUBLE;
-    }
-    if command == HELP {
-        print_help(STDOUT_FILENO);
-        return finish(b"\n");
-    }
-    act(command, first)
 }
 
 fn put_status(status: u8) {

@@ -1,4 +1,5 @@
-// The catalog's pages, followed once more for people: each is shown on standard output, or the place where a refusal is met is told on standard error.
+// The catalog's pages, followed once more for people: each is shown on standard output, as text or as JSON, or the place where a refusal is met is told on
+// standard error.
 // The library has judged the disk before; here nothing is decided.
 use catalog::entry_start;
 use catalog::first_page;
@@ -18,6 +19,7 @@ use outcome::BAD_LETTER;
 use outcome::OFF_DISC;
 use outcome::RING;
 use screen::count;
+use screen::json;
 use screen::names;
 use screen::names::shown_name;
 use screen::place;
@@ -73,6 +75,25 @@ fn page_line(disk: &[u8], per: u8, p: Place) {
     say(b"\n");
 }
 
+// The link of a page or list as it stands, and the end of its object of JSON.
+pub fn link_object(disk: &[u8], per: u8, p: Place) {
+    say(b", \"link\": ");
+    json::place(link_of(disk, per, p));
+    say(b"}}");
+}
+
+// The same as JSON. k pages stand before it.
+fn page_object(disk: &[u8], per: u8, p: Place, k: u16) {
+    json::element(k as u64);
+    json::place(p);
+    text_number(
+        STDOUT_FILENO,
+        b", \"entries\": ",
+        live_entries(disk, per, p),
+    );
+    link_object(disk, per, p);
+}
+
 // 80h stands in the name of the entry from x on.
 fn holds_80h(disk: &[u8], x: usize) -> bool {
     let name = lists::part(disk, x, 33);
@@ -124,7 +145,7 @@ pub fn bad_link(refusal: u8, what: &[u8], to: Place) {
 fn page_stop(disk: &[u8], per: u8, refusal: u8, pages: u16, from: Place, to: Place) {
     if refusal == BAD_LETTER {
         let i = bad_entry(disk, per, to);
-        text_place(STDERR_FILENO, b", catalog page ", to);
+        text_place(STDERR_FILENO, b"\n  catalog page ", to);
         text_number(STDERR_FILENO, b", entry ", next(i as u64));
         tell(b": ");
         let e = parse_file_entry(disk, entry_start(per, to, i));
@@ -132,18 +153,35 @@ fn page_stop(disk: &[u8], per: u8, refusal: u8, pages: u16, from: Place, to: Pla
         return;
     }
     if pages == 0 {
-        tell(b", VTOC 17/0");
+        tell(b"\n  VTOC 17/0");
     } else {
-        text_place(STDERR_FILENO, b", catalog page ", from);
+        text_place(STDERR_FILENO, b"\n  catalog page ", from);
     }
     bad_link(refusal, b"page ", to);
 }
 
+fn show_page(disk: &[u8], per: u8, object: bool, pages: u16, p: Place) {
+    if object {
+        page_object(disk, per, p, pages);
+        return;
+    }
+    page_line(disk, per, p);
+}
+
 // Shows a page, or tells the place of the refusal `why`, where it is met here.
-fn at_page(disk: &[u8], per: u8, why: u8, refusal: u8, pages: u16, from: Place, to: Place) {
+fn at_page(
+    disk: &[u8],
+    per: u8,
+    why: u8,
+    object: bool,
+    refusal: u8,
+    pages: u16,
+    from: Place,
+    to: Place,
+) {
     if why == 0 {
         if refusal == 0 {
-            page_line(disk, per, to);
+            show_page(disk, per, object, pages, to);
         }
         return;
     }
@@ -153,12 +191,12 @@ fn at_page(disk: &[u8], per: u8, why: u8, refusal: u8, pages: u16, from: Place, 
 }
 
 // Follows the pages: the first refusal met, or 0. `seen` is all zeros.
-fn follow_seen(disk: &[u8], per: u8, why: u8, seen: &mut [u8]) -> u8 {
+fn follow_seen(disk: &[u8], per: u8, why: u8, object: bool, seen: &mut [u8]) -> u8 {
     let mut from = vtoc();
     let mut p = first_page(disk, per);
     for k in 0..561u16 {
         let refusal = page_refusal(disk, per, p, seen);
-        at_page(disk, per, why, refusal, k, from, p);
+        at_page(disk, per, why, object, refusal, k, from, p);
         if refusal != 0 {
             return refusal;
         }
@@ -172,10 +210,10 @@ fn follow_seen(disk: &[u8], per: u8, why: u8, seen: &mut [u8]) -> u8 {
     RING
 }
 
-// Follows the pages of a disk that has a VTOC. `why` is 0 to show them, or the refusal whose place is to be told.
-pub fn follow_pages(disk: &[u8], why: u8) -> u8 {
+// Follows the pages of a disk that has a VTOC. `why` is 0 to show them, as objects of JSON or as lines, or the refusal whose place is to be told.
+pub fn follow_pages(disk: &[u8], why: u8, object: bool) -> u8 {
     let mut seen = [0u8; 560];
-    follow_seen(disk, sectors_of(disk), why, &mut seen)
+    follow_seen(disk, sectors_of(disk), why, object, &mut seen)
 }
 
 fn twin_on_page(disk: &[u8], per: u8, p: Place, raw: &[u8]) -> bool {

@@ -1,7 +1,9 @@
-// What the program writes, to a descriptor: text, numbers, locations and refusals here, names in `names`. `sums` has what its parts count with.
+// What the program writes, to a descriptor: text, numbers, locations and refusals here, names in `names`, JSON in `json`. `sums` has what its parts count with.
+pub mod json;
 pub mod names;
 pub mod sums;
 
+ghost use Prim.Native.Nat.{_≤_};
 use disk::Place;
 use disk::Sector;
 use disk::Track;
@@ -148,9 +150,22 @@ fn kind_place(kind: u8) -> usize {
     }
 }
 
+// How many letters a type has.
+fn kind_width(kind: u8) -> usize
+    ensures { λ r. ⌜ r ≤ 2 ⌝ }
+{
+    match kind {
+        20 | 40 => 2,
+        _ => 1,
+    }
+}
+
 // The letters of a type: the Rust's.
-fn letters(fd: i32, kind: u8) {
-    text(fd, lists::part(b"T I A B S R ATBTU ", kind_place(kind), 2));
+pub fn kind_letters(fd: i32, kind: u8) {
+    text(
+        fd,
+        lists::part(b"T I A B S R ATBTU ", kind_place(kind), kind_width(kind)),
+    );
 }
 
 // Lock, type and sector count of an entry, under the heads of `heads`.
@@ -160,8 +175,17 @@ pub fn entry_columns(fd: i32, locked: u8, kind: u8, sectors: u16) {
     } else {
         text(fd, b"  *    ");
     }
-    letters(fd, kind);
-    right(fd, sectors as u64, 10);
+    kind_letters(fd, kind);
+    right(fd, sectors as u64, 12 - kind_width(kind));
+}
+
+// The number of bytes, under its head; - where there are none to hand over, or none are known.
+pub fn bytes_column(fd: i32, known: bool, n: u64) {
+    if known {
+        right(fd, n, 9);
+        return;
+    }
+    text(fd, b"        -");
 }
 
 pub fn heads(fd: i32) {
@@ -173,18 +197,21 @@ fn word(fd: i32, w: outcome::Word) {
     text(fd, lists::part(&letters, 0, w.1 as usize));
 }
 
-// The front of a refusal: the paper's number and word.
+// The front of a refusal: the paper's number and word. What is told of it stands on lines of its own.
 pub fn refusal(fd: i32, why: u8) {
     text_number(fd, b"refused: ", why as u64);
     text(fd, b" ");
     word(fd, outcome::refusal_word(why));
 }
 
+// Only a Binary hands over bytes.
+pub const BINARY: u8 = 4;
+
 // What a command reads, and its length.
-pub fn input(from: &[u8], what: &[u8], size: u64) {
-    names::path(STDOUT_FILENO, from);
-    say(b": ");
-    say(what);
-    text_number(STDOUT_FILENO, b" of ", size);
-    say(b" bytes");
+pub fn input(fd: i32, from: &[u8], what: &[u8], size: u64) {
+    names::input(fd, from);
+    text(fd, b": ");
+    text(fd, what);
+    text_number(fd, b" of ", size);
+    text(fd, b" bytes");
 }

@@ -63,6 +63,15 @@ pub fn path(fd: i32, s: &[u8]) {
     shown(fd, s, 255);
 }
 
+// The name of what is read, where `-` is standard input.
+pub fn input(fd: i32, s: &[u8]) {
+    if lists::same(s, b"-") {
+        text(fd, b"standard input");
+        return;
+    }
+    path(fd, s);
+}
+
 // A shown name as the catalog has it.
 pub fn shown_name(fd: i32, n: catalog::Name) {
     let letters = n.letters;

@@ -1,14 +1,24 @@
-// Files by name: one read whole into lent space, one written whole or not at all.
+// Files by name: one read whole into lent space, one written whole or not at all. The name `-` is standard input or standard output.
+mod standing;
+
 use libc::EEXIST;
+use libc::ENOENT;
+use libc::SEEK_END;
+use libc::SEEK_SET;
 use libc::STDERR_FILENO;
+use libc::STDIN_FILENO;
 use libc::STDOUT_FILENO;
 use screen::TROUBLE;
 use screen::finish;
+use screen::names::input as show_input;
 use screen::names::path as show_path;
 use screen::say;
 use screen::sums::after;
 use screen::tell;
 use screen::text_number;
+use standing::folder_length;
+use standing::is_folder;
+use standing::is_link;
 
 // What reading came to: whether the file was read whole, and its length.
 pub struct FileRead {
@@ -28,15 +38,15 @@ fn cannot(verb: &[u8], path: &[u8]) {
     tell(b"linefiles: cannot ");
     tell(verb);
     tell(b" ");
-    show_path(STDERR_FILENO, path);
+    show_input(STDERR_FILENO, path);
     os::fail(b"");
 }
 
 fn too_long(path: &[u8], most: usize) {
     tell(b"linefiles: ");
-    show_path(STDERR_FILENO, path);
+    show_input(STDERR_FILENO, path);
     text_number(STDERR_FILENO, b" is longer than ", most as u64);
-    tell(b" bytes: no disk, nibble stream or archive that is read here\n");
+    tell(b" bytes:\n  no disk, nibble stream or archive that is read here\n");
 }
 
 // Reads to the end of the file, which must come within buf.
@@ -60,6 +70,9 @@ fn read_from(fd: i32, path: &[u8], buf: &mut [u8]) -> FileRead {
 
 // Reads a whole file into buf. Where it cannot be read, or is longer, this is said.
 pub fn read_file(path: &[u8], buf: &mut [u8]) -> FileRead {
+    if lists::same(path, b"-") {
+        return read_from(STDIN_FILENO, path, buf);
+    }
     let fd = os::open_read(path);
     if fd < 0 {
         cannot(b"read", path);
@@ -70,29 +83,29 @@ pub fn read_file(path: &[u8], buf: &mut [u8]) -> FileRead {
     got
 }
 
-// Gives the file `part` its final name; one that is taken is refused unless `force`. False where that failed, which is said.
-fn put_in_place(part: &[u8], path: &[u8], force: bool) -> bool {
-    if !force {
-        let made = os::create(path);
-        if made < 0 {
-            if os::errno() == EEXIST {
-                tell(b"linefiles: ");
-                show_path(STDERR_FILENO, path);
-                tell(b" is there already; --force overwrites it\n");
-                return false;
-            }
-            cannot(b"write", path);
+fn is_there(path: &[u8], what: &[u8]) {
+    tell(b"linefiles: ");
+    show_path(STDERR_FILENO, path);
+    tell(what);
+}
+
+// Gives the file `part` its final name; one that is taken is refused. False where that failed, which is said.
+fn put_in_place(part: &[u8], path: &[u8]) -> bool {
+    let made = os::create(path);
+    if made < 0 {
+        if os::errno() == EEXIST {
+            is_there(path, b" is there already;\n  --force overwrites a file\n");
             return false;
         }
-        libc::close(made);
+        cannot(b"write", path);
+        return false;
     }
+    libc::close(made);
     if os::rename(part, path) == 0 {
         return true;
     }
     cannot(b"write", path);
-    if !force {
-        os::unlink(path);
-    }
+    os::unlink(path);
     false
 }
 
@@ -110,15 +123,15 @@ fn fill(fd: i32, path: &[u8], bytes: &[u8]) -> bool {
     false
 }
 
-// Writes the file `part`, then gives it the name `path`. Where that fails, no file is left behind.
-fn write_by(part: &[u8], path: &[u8], bytes: &[u8], force: bool) -> bool {
+// Writes the file `part`, then gives it the name `path`, which no file may have. Where that fails, no file is left behind.
+fn write_by(part: &[u8], path: &[u8], bytes: &[u8]) -> bool {
     let fd = os::create(part);
     if fd < 0 {
         cannot(b"write", path);
         return false;
     }
     if fill(fd, path, bytes) {
-        if put_in_place(part, path, force) {
+        if put_in_place(part, path) {
             return true;
         }
     }
@@ -135,18 +148,15 @@ fn any_number() -> u64 {
     low + 65536 * high
 }
 
-// Puts the name that the file has while it is written into `name`: its length, 0 where that is too long.
+// Puts the name that the file has while it is written into `name`: its length. It lies in the same folder, and is short, whatever the file's own name.
 fn part_name(path: &[u8], name: &mut [u8]) -> usize {
     let mut digits = [0u8; 16];
     let k = io::hex(any_number(), 8, &mut digits);
-    let n = path.len();
-    if 4000 < n {
-        return 0;
-    }
-    lists::copy_at(path, name, 0);
-    lists::copy_at(b".part-", name, n);
-    lists::copy_at(&digits[..k], name, after(n, 6));
-    after(after(n, 6), k)
+    let n = folder_length(path);
+    lists::copy_at(lists::part(path, 0, n), name, 0);
+    lists::copy_at(b".linefiles-", name, n);
+    lists::copy_at(&digits[..k], name, after(n, 11));
+    after(after(n, 11), k)
 }
 
 fn wrote(path: &[u8], size: u64) -> u8 {
@@ -156,16 +166,110 @@ fn wrote(path: &[u8], size: u64) -> u8 {
     finish(b" bytes\n")
 }
 
-// Writes a whole file, or nothing: the exit status, 0 or 2.
-pub fn write_file(path: &[u8], bytes: &[u8], force: bool) -> u8 {
+// Writes a new file.
+fn write_new(path: &[u8], bytes: &[u8]) -> u8 {
     let mut name = io::buffer();
     let n = part_name(path, &mut name);
-    if n == 0 {
-        tell(b"linefiles: the name of the output is too long\n");
-        return TROUBLE;
-    }
-    if write_by(lists::part(&name, 0, n), path, bytes, force) {
+    if write_by(lists::part(&name, 0, n), path, bytes) {
         return wrote(path, bytes.len() as u64);
     }
     TROUBLE
+}
+
+// Writes what stands there anew: what lies past the old end, where that comes before the new, goes first, so that too little space leaves the file as it was.
+// Links, owner and mode stay.
+fn write_over(fd: i32, old: usize, bytes: &[u8]) -> bool {
+    if old < bytes.len() {
+        libc::lseek(fd, old as i64, SEEK_SET);
+        if !io::write_all(fd, lists::part(bytes, old, bytes.len())) {
+            libc::ftruncate(fd, old as i64);
+            return false;
+        }
+    }
+    libc::lseek(fd, 0, SEEK_SET);
+    if io::write_all(fd, lists::part(bytes, 0, old)) {
+        return libc::ftruncate(fd, bytes.len() as i64) == 0;
+    }
+    false
+}
+
+// Replaces the bytes of the file that is open at fd, if it is one.
+fn replace(fd: i32, path: &[u8], bytes: &[u8]) -> u8 {
+    let end = libc::lseek(fd, 0, SEEK_END);
+    if libc::ftruncate(fd, end) != 0 {
+        is_there(
+            path,
+            b" is a pipe, a device or a socket, and no file;\n  - is standard output\n",
+        );
+        return TROUBLE;
+    }
+    if write_over(fd, io::count(end as isize, bytes), bytes) {
+        return wrote(path, bytes.len() as u64);
+    }
+    cannot(b"write", path);
+    TROUBLE
+}
+
+// Writes the file to which a link leads, where there is none.
+fn write_through(path: &[u8], bytes: &[u8]) -> u8 {
+    let fd = os::open_overwrite(path);
+    if fd < 0 {
+        cannot(b"write", path);
+        return TROUBLE;
+    }
+    if fill(fd, path, bytes) {
+        return wrote(path, bytes.len() as u64);
+    }
+    TROUBLE
+}
+
+// Writes a file that may be there.
+fn write_forced(path: &[u8], bytes: &[u8]) -> u8 {
+    let fd = os::open_update(path);
+    if 0 <= fd {
+        let status = replace(fd, path, bytes);
+        libc::close(fd);
+        return status;
+    }
+    if os::errno() != ENOENT {
+        cannot(b"write", path);
+        return TROUBLE;
+    }
+    if is_link(path) {
+        return write_through(path, bytes);
+    }
+    write_new(path, bytes)
+}
+
+// Writes a whole file, or nothing: the exit status, 0 or 2. With `force` a file that is there is replaced; a link is written through.
+pub fn write_file(path: &[u8], bytes: &[u8], force: bool) -> u8 {
+    if lists::same(path, b"-") {
+        return finish(bytes);
+    }
+    if 3900 < path.len() {
+        tell(b"linefiles: the name of the output is too long\n");
+        return TROUBLE;
+    }
+    if is_folder(path) {
+        is_there(path, b" is a folder\n");
+        return TROUBLE;
+    }
+    if force {
+        return write_forced(path, bytes);
+    }
+    write_new(path, bytes)
+}
+
+// A folder to write files to, made where there is none. False where that cannot be, which is said.
+pub fn ready_folder(path: &[u8]) -> bool {
+    if is_folder(path) {
+        return true;
+    }
+    if os::mkdir(path) == 0 {
+        return true;
+    }
+    tell(b"linefiles: cannot make the folder ");
+    show_path(STDERR_FILENO, path);
+    os::fail(b"");
+    false
 }

@@ -6,7 +6,6 @@ use fields::find_mark;
 use fields::parse_nib_sector;
 use fields::per_track;
 use libc::STDERR_FILENO;
-use libc::STDOUT_FILENO;
 use lists::byte_at;
 use nibble::data_sum;
 use nibble::five_three;
@@ -18,6 +17,7 @@ use outcome::STRANGER;
 use outcome::TRAY_SHORT;
 use screen::REFUSED;
 use screen::count;
+use screen::number;
 use screen::refusal;
 use screen::say;
 use screen::sums::after;
@@ -95,7 +95,7 @@ fn tell_field(p: FieldPair) {
 fn tell_address(s: &[u8], i: usize, ed: Edition) {
     text_number(
         STDERR_FILENO,
-        b", the address field at byte ",
+        b"\n  the address at byte ",
         address_place(s, i, ed) as u64,
     );
 }
@@ -107,7 +107,7 @@ fn tell_stranger(s: &[u8], i: usize, p: FieldPair, ed: Edition) {
 }
 
 fn tell_data(p: FieldPair) {
-    tell(b", the data of ");
+    tell(b"\n  the data of ");
     tell_field(p);
     text_number(STDERR_FILENO, b" at byte ", p.nibbles as u64);
 }
@@ -179,10 +179,10 @@ pub fn show_mark(fd: i32, last: u8) {
 }
 
 fn tell_none(s: &[u8], ed: Edition) {
-    tell(b", no sector marked ");
+    tell(b"\n  no sector marked ");
     show_mark(STDERR_FILENO, mark_of(ed));
     text_number(STDERR_FILENO, b" is in these ", s.len() as u64);
-    tell(b" bytes (a flat disk has 143360 or 116480)");
+    tell(b" bytes\n  (a flat disk has 143360 or 116480)");
 }
 
 fn tell_place(track: u16, sector: u16) {
@@ -206,7 +206,7 @@ fn tell_absent(s: &[u8], seen: &[u8], ed: Edition) {
         return;
     }
     let k = first_absent(seen, 35 * per);
-    tell(b", ");
+    tell(b"\n  ");
     count(
         STDERR_FILENO,
         n,
@@ -260,7 +260,7 @@ pub fn refuse(bytes: &[u8], why: u8, per: u8, guessed: bool) -> u8 {
     refusal(STDERR_FILENO, why);
     tell_refusal(bytes, why, edition_of(per));
     if guessed & holds(bytes, other(per)) {
-        text_number(STDERR_FILENO, b"; by ", other(per) as u64);
+        text_number(STDERR_FILENO, b"\n  by ", other(per) as u64);
         text_number(
             STDERR_FILENO,
             b" sectors a track it is not refused (--",
@@ -272,39 +272,56 @@ pub fn refuse(bytes: &[u8], why: u8, per: u8, guessed: bool) -> u8 {
     REFUSED
 }
 
+// The sectors a track of the other disk that a stream holds too, 0 where it holds none or an option said the edition.
+pub fn other_held(bytes: &[u8], per: u8, guessed: bool) -> u8 {
+    if guessed & holds(bytes, other(per)) {
+        return other(per);
+    }
+    0
+}
+
 // Says that a stream holds a disk of the other edition too.
-pub fn say_other(bytes: &[u8], per: u8) {
-    if holds(bytes, other(per)) {
-        text_number(STDOUT_FILENO, b"It holds a disk of ", other(per) as u64);
-        text_number(
-            STDOUT_FILENO,
-            b" sectors a track too: --",
-            other(per) as u64,
-        );
-        say(b" takes that one.\n");
+pub fn say_other(fd: i32, held: u8) {
+    if held != 0 {
+        text_number(fd, b"It holds a disk of ", held as u64);
+        text_number(fd, b" sectors a track too: --", held as u64);
+        text(fd, b" takes that one.\n");
     }
 }
 
 // How many sectors a track has.
-pub fn say_sectors(per: u8) {
-    text_number(STDOUT_FILENO, b", ", per as u64);
-    say(b" sectors a track");
+pub fn say_sectors(fd: i32, per: u8) {
+    number(fd, per as u64);
+    text(fd, b" sectors a track");
 }
 
 // What the sectors of a stream's track go by: the option, or the first address mark.
-pub fn say_reason(per: u8, guessed: bool, mark: u8) {
+pub fn say_reason(fd: i32, per: u8, guessed: bool, mark: u8) {
     if !guessed {
-        text_number(STDOUT_FILENO, b" (--", per as u64);
-        say(b")\n");
+        text_number(fd, b" (--", per as u64);
+        text(fd, b")\n");
         return;
     }
     if mark == 0 {
-        say(b" (no address mark)\n");
+        text(fd, b" (no address mark)\n");
         return;
     }
-    say(b" (first address mark ");
-    show_mark(STDOUT_FILENO, mark);
-    say(b")\n");
+    text(fd, b" (first address mark ");
+    show_mark(fd, mark);
+    text(fd, b")\n");
+}
+
+// The same as a string of JSON.
+pub fn reason_string(guessed: bool, mark: u8) {
+    if !guessed {
+        say(b"\"option\"");
+        return;
+    }
+    if mark == 0 {
+        say(b"\"no address mark\"");
+        return;
+    }
+    say(b"\"first address mark\"");
 }
 
 // The sectors a track that a stream is taken by: as an option says, else by its first address mark, and 16 where it has none.

@@ -4,10 +4,10 @@ use Rattle.file_walk.proofs.follow_files.Statement.{statement}
 use Rattle.file_walk.proofs.follow_files.Tie as tie
 
 abbrev Inv-loop : tie.InvT-loop
-Inv-loop disk why fetch raw archive per p₀ s₀ k₀ p s k = k ≤ 560
+Inv-loop disk to-do archive per p₀ s₀ k₀ p s k = k ≤ 560
 
 abbrev μ-loop : tie.MeasureT-loop
-μ-loop disk why fetch raw archive per p₀ s₀ k₀ p s k = 560 - k
+μ-loop disk to-do archive per p₀ s₀ k₀ p s k = 560 - k
 
 pub follow-files-spec : {M : Type 1} → statement M
 follow-files-spec =

@@ -4,10 +4,10 @@ use Rattle.file_walk.proofs.follow_page.Statement.{statement}
 use Rattle.file_walk.proofs.follow_page.Tie as tie
 
 abbrev Inv-loop : tie.InvT-loop
-Inv-loop disk per why fetch raw archive p s₀ i₀ s i = i ≤ 7
+Inv-loop disk per to-do archive p s₀ i₀ s i = i ≤ 7
 
 abbrev μ-loop : tie.MeasureT-loop
-μ-loop disk per why fetch raw archive p s₀ i₀ s i = 7 - i
+μ-loop disk per to-do archive p s₀ i₀ s i = 7 - i
 
 pub follow-page-spec : {M : Type 1} → statement M
 follow-page-spec =

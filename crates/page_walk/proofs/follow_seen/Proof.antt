@@ -1,15 +1,15 @@
 use Prim.Native.Nat.{_-_, _≤_}
-use lib.ListN.{length}
 use mathlib.Core.Path.{_≡_}
+use lib.ListN.{length}
 use borrow.Author.Needs.{needs}
 use Rattle.page_walk.proofs.follow_seen.Statement.{statement}
 use Rattle.page_walk.proofs.follow_seen.Tie as tie
 
 abbrev Inv-loop : tie.InvT-loop
-Inv-loop disk per why seen₀ from₀ p₀ k₀ seen from p k = (k ≤ 561) × (length seen ≡ length seen₀)
+Inv-loop disk per why object seen₀ from₀ p₀ k₀ seen from p k = (k ≤ 561) × (length seen ≡ length seen₀)
 
 abbrev μ-loop : tie.MeasureT-loop
-μ-loop disk per why seen₀ from₀ p₀ k₀ seen from p k = 561 - k
+μ-loop disk per why object seen₀ from₀ p₀ k₀ seen from p k = 561 - k
 
 pub follow-seen-spec : {M : Type 1} → statement M
 follow-seen-spec =

@@ -1,0 +1,32 @@
+use Prim.Native.Nat.{_-_, _≤_}
+use mathlib.Core.Path.{_≡_}
+use lib.ListN.{length}
+use borrow.Author.Needs.{needs}
+use Rattle.uses.proofs.give_lists.Statement.{statement}
+use Rattle.uses.proofs.give_lists.Tie as tie
+
+abbrev Inv-loop : tie.InvT-loop
+Inv-loop disk per file uses₀ p₀ k₀ uses p k = (k ≤ 560) × (length uses ≡ length uses₀)
+
+abbrev μ-loop : tie.MeasureT-loop
+μ-loop disk per file uses₀ p₀ k₀ uses p k = 560 - k
+
+pub give-lists-spec : {M : Type 1} → statement M
+give-lists-spec =
+    tie.close
+    (tie.spec
+    Inv-loop
+    μ-loop
+    (λ c. search needs)  -- loop-holds
+    (λ c κs. search needs)  -- give-requires
+    (λ c κs. search needs)  -- give-pairs-requires
+    (λ c κs. search needs)  -- last-list-requires
+    (λ c. search needs)  -- same-length
+    (λ c. search needs)  -- returns
+    (λ c κs. search needs)  -- link-of-requires
+    (λ c. search needs)  -- add-k
+    (λ c. search needs)  -- loop-less
+    (λ c. search needs)  -- loop-again
+    (λ c. search needs)  -- same-length-2
+    (λ c. search needs)  -- returns-2
+    )
