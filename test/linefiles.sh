@@ -963,12 +963,12 @@ cp $(printf %q "$root/target/bin/linefiles") target/bin/linefiles
 echo "rt: ok, 3 crates proved"
 END
 wrapped survey samples/one-page.dsk
-sed -E 's/[0-9]+:[0-9]{2}/TIME/' err >told
+sed -E 's/[0-9]+:[0-9]{2}/TIME/; s/; now .*//' err | uniq >told
 holds wrapper-builds diff told - <<END
 $building
-linefiles: 1 of 3 crates proved, TIME so far: lists
-linefiles: 2 of 3 crates proved, TIME so far: screen
-linefiles: 3 of 3 crates proved, TIME so far: linefiles
+linefiles: 1 of 3 crates proved, TIME so far
+linefiles: 2 of 3 crates proved, TIME so far
+linefiles: 3 of 3 crates proved, TIME so far
 linefiles: built in TIME
 END
 holds wrapper-builds-output diff by-link.out out
@@ -988,13 +988,14 @@ wait
 holds wrapper-waits test "$status $(cat err)" = '0 linefiles: another build is under way; waiting for it'
 holds wrapper-waits-output diff by-link.out out
 holds wrapper-first-output diff by-link.out first.out
+holds wrapper-first-says grep -Eqx 'linefiles: 1 of 3 crates proved, 0:0[0-9] so far; now screen' first.err
 # on a terminal one line renews itself
 if command -v script >/dev/null; then
     rm -rf fresh/target
     PATH=$work/tools:$PATH script -qec 'fresh/linefiles survey samples/one-page.dsk' /dev/null </dev/null >terminal
     tr '\r' '\n' <terminal | sed -E 's/[0-9]+:[0-9]{2}/TIME/' >told
     holds wrapper-terminal grep -q '^linefiles: 1 of 3 crates proved, TIME so far; now screen' told
-    holds wrapper-terminal-one-line test "$(grep -c 'crates proved, TIME so far: ' told)" = 0
+    holds wrapper-terminal-one-line test "$(tr -d '\r' <terminal | grep -c 'crates proved, ')" = 1
 fi
 rm -f fresh/slow
 # a program that a signal ends
