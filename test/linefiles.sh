@@ -949,14 +949,15 @@ building='linefiles: building; the first time all is proved, which takes some mi
 holds wrapper-build-fails test "$status $(cat err)" = "2 $building
 the log of check linefiles
 linefiles: rt check linefiles failed"
-# rt as it is: a line for each crate that is proved; with `slow` there it takes its time over the second
+# rt as it is: a word and a log for each crate, and a line where it is proved; with `slow` there it takes its time over the second
 cat >tools/rt <<END
 #!/usr/bin/env bash
 mkdir -p target/log target/bin
 for crate in lists screen linefiles; do
+    echo failed >target/log/\$crate.res
     touch target/log/\$crate.out
     if [ -e slow ] && [ \$crate = screen ]; then sleep 3; fi
-    touch target/log/\$crate.res
+    echo proved >target/log/\$crate.res
     echo "rt: \$crate proved (1 s)"
 done
 cp $(printf %q "$root/target/bin/linefiles") target/bin/linefiles
