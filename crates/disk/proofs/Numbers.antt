@@ -51,8 +51,8 @@ link-read d n t s p a b = rw (a, b) refl
 pub ruleset bytes = (byte-read, link-read, needs)
 
 -- no more than 16 of two bytes' bits are set
-pub ones-small : (high low m : ℕ) → high < 256 → low < 256 → 0 < m → ones ((256 * high + low) / m) ≤ 16
-ones-small high low m a b h = ones-le 16 ((256 * high + low) / m) (omega (arith, div-le-self (256 * high + low) m))
+pub ones-small : (w m : ℕ) → w < 65536 → 0 < m → ones (w / m) ≤ 16
+ones-small w m a h = ones-le 16 (w / m) (omega (arith, div-le-self w m))
 
 -- ---- the sectors of a track, and the bits below its map
 pub per-13 : (d : List ℕ) → length d ≡ 116480 → 13 ≡ perOf d

@@ -6,7 +6,7 @@ ghost use lib.Count.{ones};
 ghost use lib.ListN.{length};
 ghost use Rattle.outcome.specs.Outcome.{number};
 ghost use Rattle.disk.specs.Disk.{perOf, place, sectors, start, byteOf, linkOf, onDisk};
-ghost use Rattle.disk.specs.Vtoc.{vtoc, readable, freeIn, freeBelow, percent, oneOf, validTable, spare, signed, blank, tableOf, parsed};
+ghost use Rattle.disk.specs.Vtoc.{vtoc, readable, freeIn, freeBelow, percent, oneOf, validTable, spare, mapWord, signed, blank, tableOf, parsed};
 ghost use Rattle.disk.specs.Window.{sectorIn, windowed, part};
 use outcome::NO_TABLE;
 use outcome::OFF_DISC;
@@ -68,7 +68,7 @@ pub fn link_of(disk: &[u8], per: u8, p: Place) -> Place
 }
 
 // Byte k of the volume table of contents, which stands on track 17, sector 0.
-fn vtoc_byte(disk: &[u8], per: u8, k: u16) -> u8
+pub fn vtoc_byte(disk: &[u8], per: u8, k: u16) -> u8
     ensures { λ r. ⌜ r ≡ byteOf per (now (disk .entry)) vtoc k ⌝ }
 {
     byte_of(
@@ -105,14 +105,21 @@ fn spare_of(per: u8) -> u16
     1
 }
 
+// Map bytes 0 and 1 of a track, as one number.
+pub fn map_word(disk: &[u8], per: u8, t: u8) -> u16
+    ensures { λ r. ⌜ r ≡ mapWord per (now (disk .entry)) t ⌝ }
+{
+    let high = vtoc_byte(disk, per, 56 + 4 * (t as u16)) as u16;
+    let low = vtoc_byte(disk, per, 57 + 4 * (t as u16)) as u16;
+    256 * high + low
+}
+
 // The free sectors of a track: the ones among its map bits.
 fn free_in(disk: &[u8], per: u8, t: u8) -> u32
     ensures is { λ r. ⌜ r ≡ freeIn per (now (disk .entry)) t ⌝ }
     ensures small { λ r. ⌜ r ≤ 16 ⌝ }
 {
-    let high = vtoc_byte(disk, per, 56 + 4 * (t as u16)) as u16;
-    let low = vtoc_byte(disk, per, 57 + 4 * (t as u16)) as u16;
-    u16::count_ones((256 * high + low) / spare_of(per))
+    u16::count_ones(map_word(disk, per, t) / spare_of(per))
 }
 
 // A byte as a signed number.

@@ -172,7 +172,7 @@ fn head_with(disk: &[u8], per: u8, head: Place, m: u32, p: Place) -> Place
 }
 
 // The link of a list ends the chain, or has a sector.
-fn whole_link(disk: &[u8], per: u8, p: Place) -> bool
+pub fn whole_link(disk: &[u8], per: u8, p: Place) -> bool
     ensures { λ r. ⌜ r ≡ wholeLink per (now (disk .entry)) p ⌝ }
 {
     if byte_of(disk, per, p, 1) == 0 {

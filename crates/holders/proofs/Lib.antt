@@ -1,0 +1,10 @@
+pub mod Counting
+pub mod Clean
+pub mod Refusals
+pub mod Claims
+pub mod Bits
+pub mod Map
+pub mod Cases
+pub mod Tallies
+pub mod Sums
+pub mod Report
