@@ -17,7 +17,7 @@ use Rattle.disk.specs.Chain.{walk}
 use Rattle.disk.proofs.Steps.{made, rest, rest-start, rest-full, rest-off, rest-bad, rest-end, rest-more}
 use Rattle.files.specs.declared.Thread.{Thread}
 use Rattle.lists.proofs.Split.{and-assoc, and-true}
-use Rattle.lists.proofs.Select.{onward, onward-next, onward-end, takeWhile-next, takeWhile-stop}
+use Rattle.lists.proofs.Select.{all-append, onward, onward-next, onward-end, takeWhile-next, takeWhile-stop}
 use Rattle.disk.specs.declared.Place.{Place}
 use Rattle.disk.specs.Disk.{place, onDisk, byteOf, linkOf}
 use Rattle.files.specs.declared.PairRun.{PairRun}
@@ -140,12 +140,6 @@ pub record Run : Type 0 where
 
 abbrev pub run : ℕ → ℕ → Bool → Place → Run
 run k m good head = record { lists = k; pairs = m; good = good; head = head }
-
--- all of two lists
-all-append : {A : Type 0} (t : A → Bool) (xs ys : List A) → all t (xs ++ ys) ≡ (all t xs && all t ys)
-unfolding all
-all-append t [] ys = refl
-all-append t (x ∷ xs) ys = rw (all-append t xs ys) (and-assoc (t x) (all t xs) (all t ys))
 
 -- the first of two lists
 head-append : (xs ys : List Place) → headOf (xs ++ ys) ≡ cond (eqb (length xs) 0) (headOf ys) (headOf xs)

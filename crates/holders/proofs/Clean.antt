@@ -1,52 +1,23 @@
 -- Clean, as it is used: no place of the disk is held twice, and none that is held is free in the map. Assumes nothing.
-use mathlib.Core.Path.{_≡_, refl, _∙_}
+use mathlib.Core.Path.{_≡_, refl}
 use mathlib.Core.Bool.{true, false, _&&_}
 use mathlib.Core.Logic.{_↔_, ⊎-elim}
 use mathlib.Core.List.{List, map}
-use Prim.Native.Nat.{ℕ, _+_, _*_, _/_, _%_, _<_, _≤_}
-use native.Mathlib.Nat.{mul-add-div, mul-add-mod-self-left, div-eq-of-lt, mod-eq-of-lt, mod-lt, div-add-mod, div-lt-iff-lt-mul}
+use Prim.Native.Nat.{ℕ, _<_, _≤_}
 use native.Mathlib.Omega.{arith}
 use lib.Dec.{eqb, ltb}
 use borrow.Author.Tests.{ltb-true, ltb-false, lt-ltb, le-ltb, eqb-true, eq-eqb}
 use Rattle.lists.specs.Every.{Every}
 use Rattle.lists.specs.Every
-use Rattle.lists.specs.Select.{among}
+use Rattle.lists.specs.Select.{among, Apart, passing}
 use Rattle.lists.proofs.Split.{by-test, both-true, clash}
-use Rattle.lists.proofs.Among.{Apart, among-here, among-there, among-cases}
+use Rattle.lists.proofs.Among.{among-here, among-there, among-cases}
+use Rattle.lists.proofs.Passing.{zero-passing, passing-zero}
 use Rattle.disk.specs.declared.Place.{Place}
-use Rattle.disk.specs.Disk.{place, onDisk, numberOf, sectors}
-use Rattle.disk.proofs.Places.{on-sector, number-small, same-place}
-use Rattle.holders.specs.Holders.{held, countOf, shared, free, placeOf, heldFree, clean}
-use Rattle.holders.proofs.Counting.{count-none, none-count, held-among, among-held, apart-held, held-apart}
-
--- ---- a place and its number
-module _ (n : ℕ) where
-  -- a track and a sector in bounds are on the disk
-  pub is-on : (t s : ℕ) → t < 35 → s < n → onDisk n (place t s) ≡ true
-  unfolding onDisk
-  is-on t s h l = rw (lt-ltb _ _ h, lt-ltb _ _ l) refl
-
-  -- the place of a number, by track and sector
-  pub at-place : (t s : ℕ) → s < n → placeOf n (n * t + s) ≡ place t s
-  at-place t s l =
-      let z : 0 < n = omega arith in
-      let x : (n * t + s) / n ≡ t = mul-add-div z t s ∙ rw (div-eq-of-lt l) (omega arith) in
-      let y : (n * t + s) % n ≡ s = mul-add-mod-self-left n t s ∙ mod-eq-of-lt l in
-      λ i. place (x i) (y i)
-
-  -- .. so that of a place's number is the place
-  pub place-number : (p : Place) → onDisk n p ≡ true → placeOf n (numberOf n p) ≡ p
-  place-number p on = at-place (p .track .0) (p .sector .0) (on-sector n p on)
-
-  -- a number of the disk is the number of its place
-  pub number-place : (k : ℕ) → numberOf n (placeOf n k) ≡ k
-  number-place k = div-add-mod k n
-
-  pub on-place : (k : ℕ) → k < sectors n → onDisk n (placeOf n k) ≡ true
-  on-place k h =
-      by-test (ltb 0 n)
-      (λ q. let z = ltb-true 0 n q in is-on (k / n) (k % n) (div-lt-iff-lt-mul z .1 h) (mod-lt k z))
-      (λ q. let z = ltb-false 0 n q in absurd (omega arith))
+use Rattle.disk.specs.Disk.{onDisk, numberOf, placeOf, sectors}
+use Rattle.disk.proofs.Places.{number-small, same-place, place-number, number-place, on-place}
+use Rattle.holders.specs.Holders.{held, shared, free, heldFree, clean}
+use Rattle.holders.proofs.Counting.{held-among, among-held, apart-held, held-apart}
 
 -- ---- the places that hold
 abbrev pub On : ℕ → List Place → Type 0
@@ -85,22 +56,22 @@ module _ (n : ℕ) (d : List ℕ) (hs : List Place) where
       let b = both-true (eqb (shared n hs) 0) (eqb (heldFree n d hs) 0) e in
       record {
         once = λ p on.
-            let t = count-none n (λ k. ltb 1 (held n hs k)) (eqb-true _ _ (b .0)) (numberOf n p) (number-small n p on) in
+            let t = zero-passing (λ k. ltb 1 (held n hs k)) (sectors n) (eqb-true _ _ (b .0)) (numberOf n p) (number-small n p on) in
             let z = ltb-false 1 (held n hs (numberOf n p)) t in
             omega arith;
         used = λ p on h.
-            let t = count-none n (λ k. ltb 0 (held n hs k) && free n d (placeOf n k)) (eqb-true _ _ (b .1)) (numberOf n p) (number-small n p on) in
+            let t = zero-passing (λ k. ltb 0 (held n hs k) && free n d (placeOf n k)) (sectors n) (eqb-true _ _ (b .1)) (numberOf n p) (number-small n p on) in
             rw (lt-ltb 0 _ h, place-number n p on) at t;
       }
 
   pub clear-clean : Clear → clean n d hs ≡ true
   unfolding clean shared heldFree
   clear-clean c =
-      let a : countOf n (λ k. ltb 1 (held n hs k)) ≡ 0 =
-      none-count n (λ k. ltb 1 (held n hs k))
+      let a : passing (λ k. ltb 1 (held n hs k)) (sectors n) ≡ 0 =
+      passing-zero (λ k. ltb 1 (held n hs k)) (sectors n)
       (λ k h. le-ltb 1 (held n hs k) (rw (number-place n k) at (c .once (placeOf n k) (on-place n k h)))) in
-      let b : countOf n (λ k. ltb 0 (held n hs k) && free n d (placeOf n k)) ≡ 0 =
-      none-count n (λ k. ltb 0 (held n hs k) && free n d (placeOf n k))
+      let b : passing (λ k. ltb 0 (held n hs k) && free n d (placeOf n k)) (sectors n) ≡ 0 =
+      passing-zero (λ k. ltb 0 (held n hs k) && free n d (placeOf n k)) (sectors n)
       (λ k h.
       by-test (ltb 0 (held n hs k))
       (λ q. rw q (c .used (placeOf n k) (on-place n k h) (rw (number-place n k) (ltb-true 0 (held n hs k) q))))

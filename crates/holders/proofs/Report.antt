@@ -1,40 +1,38 @@
 -- The report made of the counts. Assumes nothing.
 use mathlib.Core.Path.{_≡_, refl, sym, ap, subst, _∙_}
-use mathlib.Core.Bool.{Bool, true, false, cond, _&&_}
+use mathlib.Core.Bool.{Bool, true, false, _&&_}
 use mathlib.Core.List.{List, [], _∷_, _++_, map, flatMap, foldl, append-nil, append-assoc}
-use Prim.Native.Nat.{ℕ, zero, suc, _+_, _*_, _-_, _/_, _%_, _^_, _<_, _≤_}
-use native.Mathlib.Nat.{mod-lt, div-lt-iff-lt-mul}
-use native.Mathlib.Numerals.{add-one}
+use Prim.Native.Nat.{ℕ, zero, suc, _+_, _*_, _<_, _≤_}
 use native.Mathlib.Omega.{arith}
 use lib.ListN.{length, getD, replicate, length-replicate, getD-replicate}
 use lib.Seq.{getD-set-same, getD-set-other}
 use lib.Dec.{eqb, ltb}
-use borrow.Author.Tests.{eqb-true, eqb-false, eq-eqb, ne-eqb, lt-ltb}
+use borrow.Author.Tests.{eqb-true, eqb-false, ne-eqb, lt-ltb}
 use borrow.Author.Needs.{needs}
 use Rattle.lists.specs.Fill.{tab}
-use Rattle.lists.specs.Select.{filter}
+use Rattle.lists.specs.Select.{filter, passing}
 use Rattle.lists.proofs.Split.{by-test}
+use Rattle.lists.proofs.Chunks.{flatMap-append}
+use Rattle.lists.proofs.Passing.{passing-same}
 use Rattle.outcome.specs.declared.Refusal.{Refusal}
-use Rattle.outcome.specs.Refusal.{code}
 use Rattle.outcome.specs.Outcome.{Outcome, refused, given, _>>=_, _>>_, number, each}
-use Rattle.outcome.proofs.Outcome.{refused-given, gives, number-0, number-then, each-append}
+use Rattle.outcome.proofs.Outcome.{refused-given, number-0, number-then, each-append}
 use Rattle.disk.specs.declared.Place.{Place}
-use Rattle.disk.specs.Disk.{place, start, numberOf, sectors, perOf}
-use Rattle.disk.specs.Vtoc.{vtoc, readable, mapWord}
+use Rattle.disk.specs.Disk.{start, numberOf, placeOf, sectors, perOf}
+use Rattle.disk.specs.Vtoc.{vtoc, readable}
 use Rattle.disk.specs.Chain.{walk}
-use Rattle.catalog.specs.Catalog.{Entry, live, entryFrom, entriesOf, soundPage, nextPage, firstPage, pages}
+use Rattle.catalog.specs.Catalog.{live, entryFrom, entriesOf, soundPage, nextPage, firstPage, pages}
 use Rattle.holders.specs.declared.HolderCounts.{HolderCounts}
-use Rattle.holders.specs.Holders.{bit, sectorsOf, holders, held, countOf, unheld, heldOnce, shared, heldFree, clean, free, placeOf, Holding, holding}
-use Rattle.holders.specs.Tally.{more, passing, bump, bumps, Tallied, sectorsFrom, lineSectors, withLine, withLines, withPage, walkHeld, metFrom, allMet, isHeld, isFree, noHolders, reported}
+use Rattle.holders.specs.Holders.{sectorsOf, holders, held, unheld, heldOnce, shared, free, heldFree, clean, numbersOf, holding, noHolders, reported}
+use Rattle.holders.specs.Tally.{oneMore, bump, bumps, Tallied, sectorsFrom, lineSectors, withLine, withLines, withPage, walkHeld, metFrom, allMet, isHeld, isFree}
 use Rattle.holders.proofs.Counting.{held-append, held-none, held-here, held-else}
-use Rattle.holders.proofs.Map.{cnt-same}
-use Rattle.holders.proofs.Tallies.{length-bumps, length-bump, bumps-more, bumps-none}
+use Rattle.holders.proofs.Tallies.{length-bump, bumps-more, bumps-none}
 
 -- ---- counts and holders
 -- a count, h times one more
 unfoldable up : ℕ → ℕ → ℕ
 up x zero = x
-up x (suc h) = up (more x) h
+up x (suc h) = up (oneMore x) h
 
 up-2 : (h : ℕ) → up 2 h ≡ 2
 unfolding up
@@ -42,7 +40,7 @@ up-2 zero = refl
 up-2 (suc h) = up-2 h
 
 module _ (n : ℕ) where
-  bump-here : (c : List ℕ) (p : Place) (k : ℕ) → k < length c → numberOf n p ≡ k → getD (bump n c p) k 0 ≡ more (getD c k 0)
+  bump-here : (c : List ℕ) (p : Place) (k : ℕ) → k < length c → numberOf n p ≡ k → getD (bump n c p) k 0 ≡ oneMore (getD c k 0)
   unfolding bump
   bump-here c p k h e = rw e (getD-set-same c k _ 0 h)
 
@@ -96,11 +94,6 @@ pub record Alike (n : ℕ) (o w : Outcome (List Place)) : Type 0 where
 
 abbrev flat : List (List Place) → List Place
 flat ts = flatMap (λ t. t) ts
-
-flat-append : (a b : List (List Place)) → flat (a ++ b) ≡ flat a ++ flat b
-unfolding flatMap
-flat-append [] b = refl
-flat-append (t ∷ a) b = ap (λ (x : List Place). t ++ x) (flat-append a b) ∙ sym (append-assoc t (flat a) (flat b))
 
 alike-same : (n : ℕ) (o w : Outcome (List Place)) → o ≡ w → Alike n o w
 alike-same n o w e =
@@ -221,7 +214,7 @@ module _ (n : ℕ) (d : List ℕ) where
           let b₁ = held-append n k hs (p ∷ ps ++ flat (t ++ b)) in
           let b₂ = held-append n k (p ∷ []) (ps ++ flat (t ++ b)) in
           let b₃ = held-append n k ps (flat (t ++ b)) in
-          let b₄ : held n (flat (t ++ b)) k ≡ held n (flat t) k + held n (flat b) k = ap (λ (x : List Place). held n x k) (flat-append t b) ∙ held-append n k (flat t) (flat b) in
+          let b₄ : held n (flat (t ++ b)) k ≡ held n (flat t) k + held n (flat b) k = ap (λ (x : List Place). held n x k) (flatMap-append (λ t. t) t b) ∙ held-append n k (flat t) (flat b) in
           omega arith
 
       go : ((l : List Place) → Alike n (foldl (withPage n d) (given l) ps) (tail >>= λ ts. given (l ++ (ps ++ flat ts)))) → (e : Outcome (List (List Place)))
@@ -253,7 +246,7 @@ module _ (n : ℕ) (d c : List ℕ) (k : ℕ) (t : Tallied n (allMet n d) (repli
     where
       go : (o : Outcome (List Place)) → k ≡ number o
           → noHolders k
-          ≡ reported (o >>= λ hs. given (record { unheld = unheld n hs; heldOnce = heldOnce n hs; shared = shared n hs; heldFree = heldFree n d hs; clean = clean n d hs }))
+          ≡ reported (o >>= λ hs. given (numbersOf n d hs))
       go (refused r) q = rw q refl
       go (given hs) q = absurd (h q)
 
@@ -270,21 +263,21 @@ module _ (n : ℕ) (d c : List ℕ) (k : ℕ) (t : Tallied n (allMet n d) (repli
         ∙ ap (up 0) (all-alike n d .held (met .0) (has .0) (met .1) (has .1) j)
 
     unheld-is : passing (isHeld c 0) (sectors n) ≡ unheld n (has .0)
-    unfolding unheld countOf isHeld
-    unheld-is = cnt-same _ _ (sectors n) (λ j h. ap (λ (x : ℕ). eqb x 0) (at j h) ∙ none-is (held n (has .0) j))
+    unfolding unheld isHeld
+    unheld-is = passing-same _ _ (sectors n) (λ j h. ap (λ (x : ℕ). eqb x 0) (at j h) ∙ none-is (held n (has .0) j))
 
     once-is : passing (isHeld c 1) (sectors n) ≡ heldOnce n (has .0)
-    unfolding heldOnce countOf isHeld
-    once-is = cnt-same _ _ (sectors n) (λ j h. ap (λ (x : ℕ). eqb x 1) (at j h) ∙ one-is (held n (has .0) j))
+    unfolding heldOnce isHeld
+    once-is = passing-same _ _ (sectors n) (λ j h. ap (λ (x : ℕ). eqb x 1) (at j h) ∙ one-is (held n (has .0) j))
 
     shared-is : passing (isHeld c 2) (sectors n) ≡ shared n (has .0)
-    unfolding shared countOf isHeld
-    shared-is = cnt-same _ _ (sectors n) (λ j h. ap (λ (x : ℕ). eqb x 2) (at j h) ∙ two-is (held n (has .0) j))
+    unfolding shared isHeld
+    shared-is = passing-same _ _ (sectors n) (λ j h. ap (λ (x : ℕ). eqb x 2) (at j h) ∙ two-is (held n (has .0) j))
 
     free-is : passing (isFree n d c) (sectors n) ≡ heldFree n d (has .0)
-    unfolding heldFree countOf isFree
+    unfolding heldFree isFree
     free-is =
-        cnt-same _ _ (sectors n)
+        passing-same _ _ (sectors n)
         (λ j h. ap (λ (x : ℕ). ltb 0 x && free n d (placeOf n j)) (at j h) ∙ ap (λ (b : Bool). b && free n d (placeOf n j)) (some-is (held n (has .0) j)))
 
     pub report-given : (a b s f : ℕ) → a ≡ passing (isHeld c 0) (35 * n) → b ≡ passing (isHeld c 1) (35 * n) → s ≡ passing (isHeld c 2) (35 * n)
@@ -294,7 +287,7 @@ module _ (n : ℕ) (d c : List ℕ) (k : ℕ) (t : Tallied n (allMet n d) (repli
     report-given a b s f ea eb es ef =
         let g : reported (holding n d)
         ≡ record { refusal = 0; unheld = unheld n (has .0); «held_once» = heldOnce n (has .0); shared = shared n (has .0); «held_free» = heldFree n d (has .0); clean = clean n d (has .0) } =
-        ap (λ (o : Outcome (List Place)). reported (o >>= λ hs. given (record { unheld = unheld n hs; heldOnce = heldOnce n hs; shared = shared n hs; heldFree = heldFree n d hs; clean = clean n d hs }))) (has .1) in
+        ap (λ (o : Outcome (List Place)). reported (o >>= λ hs. given (numbersOf n d hs))) (has .1) in
         let a′ : a ≡ unheld n (has .0) = ea ∙ unheld-is in
         let b′ : b ≡ heldOnce n (has .0) = eb ∙ once-is in
         let s′ : s ≡ shared n (has .0) = es ∙ shared-is in

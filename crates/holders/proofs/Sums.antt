@@ -8,16 +8,16 @@ use native.Mathlib.Numerals.{add-one}
 use native.Mathlib.Omega.{arith}
 use lib.ListN.{length, getD}
 use lib.Dec.{eqb, ltb}
-use borrow.Author.Tests.{ne-eqb}
 use borrow.Author.Needs.{needs}
+use Rattle.lists.specs.Select.{passing}
+use Rattle.lists.proofs.Passing.{passing-suc, passing-same, passing-none, passing-add}
 use Rattle.disk.specs.declared.Place.{Place}
 use Rattle.disk.specs.Disk.{place, start}
 use Rattle.disk.specs.Vtoc.{mapWord}
 use Rattle.disk.proofs.Numbers.{bytes-times}
-use Rattle.holders.specs.Holders.{bit, free, placeOf}
-use Rattle.holders.specs.Tally.{passing, isHeld, isFree, isFreeIn}
-use Rattle.holders.proofs.Clean.{at-place}
-use Rattle.holders.proofs.Map.{cnt-suc, cnt-same, cnt-none, cnt-add}
+use Rattle.disk.proofs.Places.{at-place}
+use Rattle.holders.specs.Holders.{bit, free}
+use Rattle.holders.specs.Tally.{isHeld, isFree, isFreeIn}
 
 -- ---- a run of tests: m of the first k of them pass
 module _ (test : ℕ → Bool) (total : ℕ) where
@@ -27,14 +27,14 @@ module _ (test : ℕ → Bool) (total : ℕ) where
     pub is : m ≡ passing test k
 
   pub counted-none : Counted 0 0
-  counted-none = record { count = omega arith; small = omega arith; is = sym (cnt-none test) }
+  counted-none = record { count = omega arith; small = omega arith; is = sym (passing-none test) }
 
   turn : (k m r : ℕ) → Counted k m → k < total → r ≡ cond (test k) 1 0 → r ≤ 1 → Counted (k + 1) (m + r)
   turn k m r i h e s =
       record {
         count = omega arith;
         small = omega (arith, i .small);
-        is = ap (λ (x : ℕ). x + r) (i .is) ∙ ap (λ (x : ℕ). passing test k + x) e ∙ sym (cnt-suc test k) ∙ ap (passing test) (sym (add-one k));
+        is = ap (λ (x : ℕ). x + r) (i .is) ∙ ap (λ (x : ℕ). passing test k + x) e ∙ sym (passing-suc test k) ∙ ap (passing test) (sym (add-one k));
       }
 
   pub counted-done : (k m : ℕ) → Counted k m → total ≤ k → m ≡ passing test total
@@ -124,7 +124,7 @@ module _ (n : ℕ) (d c : List ℕ) where
   pub tracks-none : Tracks 0 0
   tracks-none =
       let e : n * 0 ≡ 0 = omega arith in
-      record { count = omega arith; small = omega arith; is = sym (ap (passing (isFree n d c)) e ∙ cnt-none (isFree n d c)) }
+      record { count = omega arith; small = omega arith; is = sym (ap (passing (isFree n d c)) e ∙ passing-none (isFree n d c)) }
 
   by-track : (t s : ℕ) → s < n → isFree n d c (n * t + s) ≡ isFreeIn n d c t s
   unfolding isFree isFreeIn
@@ -132,8 +132,8 @@ module _ (n : ℕ) (d c : List ℕ) where
 
   pub tracks-more : (t m r : ℕ) → Tracks t m → t < 35 → r ≡ passing (isFreeIn n d c t) n → r ≤ 255 → Tracks (t + 1) (m + r)
   tracks-more t m r i h e s =
-      let a : passing (isFree n d c) (n * t + n) ≡ passing (isFree n d c) (n * t) + passing (λ s. isFree n d c (n * t + s)) n = cnt-add (isFree n d c) (n * t) n in
-      let b : passing (λ s. isFree n d c (n * t + s)) n ≡ passing (isFreeIn n d c t) n = cnt-same _ _ n (by-track t) in
+      let a : passing (isFree n d c) (n * t + n) ≡ passing (isFree n d c) (n * t) + passing (λ s. isFree n d c (n * t + s)) n = passing-add (isFree n d c) (n * t) n in
+      let b : passing (λ s. isFree n d c (n * t + s)) n ≡ passing (isFreeIn n d c t) n = passing-same _ _ n (by-track t) in
       let x : m ≡ passing (isFree n d c) (n * t) = i .is in
       let y : m + r ≡ passing (isFree n d c) (n * t + n) = omega arith in
       let z : n * t + n ≡ n * (t + 1) = omega arith in

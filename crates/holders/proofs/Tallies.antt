@@ -6,12 +6,13 @@ use Prim.Native.Nat.{ℕ, zero, suc, _+_, _*_, _/_, _<_, _≤_}
 use native.Mathlib.Numerals.{add-one}
 use native.Mathlib.Omega.{arith}
 use lib.ListN.{length, getD, set, length-set}
-use lib.Seq.{set-out}
+use lib.Seq.{set-out, set-getD}
 use lib.Dec.{eqb}
 use borrow.Author.Tests.{lt-ltb, le-ltb, not-true, not-false}
 use borrow.Author.Needs.{needs}
 use Rattle.lists.specs.Select.{all}
-use Rattle.lists.proofs.Split.{by-test}
+use Rattle.lists.proofs.Split.{by-test, and-assoc}
+use Rattle.lists.proofs.Select.{all-append, all-one}
 use Rattle.outcome.specs.declared.Refusal.{Refusal}
 use Rattle.outcome.specs.declared.Refusal.the-variants.{OffDisc, Ring, CutLink, BadLetter}
 use Rattle.outcome.specs.Refusal.{code}
@@ -28,11 +29,6 @@ use Rattle.holders.specs.Holders.{withPairs}
 use Rattle.holders.specs.Tally.{bump, bumps, Bumped, PairHeld, Paired, ListHeld, Tallied, Extends, sectorsFrom, lineSectors, withLine, withLines, withPage, onPage, walkHeld, metFrom, allMet}
 
 -- ---- one place
-set-self : (c : List ℕ) (k : ℕ) → set c k (getD c k 0) ≡ c
-set-self [] k = refl
-set-self (x ∷ xs) zero = refl
-set-self (x ∷ xs) (suc k) = ap (λ (r : List ℕ). x ∷ r) (set-self xs k)
-
 module _ (n : ℕ) (c : List ℕ) (p : Place) (s : ℕ) (e : s ≡ start n p) where
   at : s / 256 ≡ n * p .track .0 + p .sector .0
   at = omega (arith, e)
@@ -47,7 +43,7 @@ module _ (n : ℕ) (c : List ℕ) (p : Place) (s : ℕ) (e : s ≡ start n p) wh
 
   pub hold-full : 2 ≤ getD c (s / 256) 0 → Bumped n p c c
   unfolding bump
-  hold-full l = record { is = rw (← at, le-ltb _ _ l) (sym (set-self c (s / 256))) }
+  hold-full l = record { is = rw (← at, le-ltb _ _ l) (sym (set-getD c (s / 256) 0)) }
 
 pub ruleset holds = (hold-out, hold-more, hold-full, needs)
 
@@ -74,11 +70,6 @@ module _ (n : ℕ) where
   pub bumps-more : (c : List ℕ) (p : Place) (ps : List Place) → bumps n c (p ∷ ps) ≡ bumps n (bump n c p) ps
   unfolding bumps
   bumps-more c p ps = refl
-
-all-last : (n : ℕ) (a : List Place) (q : Place) → all (onDisk n) (a ++ q ∷ []) ≡ (all (onDisk n) a && onDisk n q)
-unfolding all
-all-last n [] q = by-test (onDisk n q) (λ e. rw e refl) (λ e. rw e refl)
-all-last n (p ∷ a) q = by-test (onDisk n p) (λ e. rw e (all-last n a q)) (λ e. rw e refl)
 
 -- ---- the pairs of a list
 module _ (n : ℕ) (d : List ℕ) (p : Place) (c₀ : List ℕ) where
@@ -119,7 +110,7 @@ module _ (n : ℕ) (d : List ℕ) (p : Place) (c₀ : List ℕ) where
           split = h .split ∙ ap (λ (y : List Place). h .done ++ y) (next n d p i l q e z) ∙ sym (append-assoc (h .done) (q ∷ []) (behind n d p (i + 1)));
           paired =
               record {
-                good = rw (all-last n (h .done) q, ← g .good, ← w) refl;
+                good = rw (all-append (onDisk n) (h .done) (q ∷ []), all-one (onDisk n) q, ← g .good, ← w) refl;
                 is = u .is ∙ rw (bumps-append n c₀ (h .done) (q ∷ []), ← g .is, bumps-more n c q [], bumps-none n (bump n c q)) refl;
               };
         }
@@ -157,15 +148,6 @@ record Run : Type 0 where
 abbrev run : Bool → List ℕ → Run
 run g c = record { good = g; counts = c }
 
-and-assoc : (a b c : Bool) → ((a && b) && c) ≡ (a && (b && c))
-and-assoc true b c = refl
-and-assoc false b c = refl
-
-all-append : (n : ℕ) (a b : List Place) → all (onDisk n) (a ++ b) ≡ (all (onDisk n) a && all (onDisk n) b)
-unfolding all
-all-append n [] b = refl
-all-append n (p ∷ a) b = rw (all-append n a b) (sym (and-assoc (onDisk n p) (all (onDisk n) a) (all (onDisk n) b)))
-
 module _ (n : ℕ) (d : List ℕ) where
   abbrev step : Run → Place → Run
   step s l = run (s .good && all (onDisk n) (pairsOf n d l)) (bumps n (bump n (s .counts) l) (pairsOf n d l))
@@ -176,7 +158,7 @@ module _ (n : ℕ) (d : List ℕ) where
   steps-are g c [] = let a : g ≡ (g && true) = by-test g (λ e. rw e refl) (λ e. rw e refl) in λ j. run (a j) (sym (bumps-none n c) j)
   steps-are g c (l ∷ ls) =
       let a : ((g && all (onDisk n) (pairsOf n d l)) && all (onDisk n) (flatMap (pairsOf n d) ls)) ≡ (g && all (onDisk n) (pairsOf n d l ++ flatMap (pairsOf n d) ls)) =
-      rw (all-append n (pairsOf n d l) (flatMap (pairsOf n d) ls)) (and-assoc g _ _) in
+      rw (all-append (onDisk n) (pairsOf n d l) (flatMap (pairsOf n d) ls)) (sym (and-assoc g _ _)) in
       let b : bumps n (bumps n (bump n c l) (pairsOf n d l)) (flatMap (withPairs n d) ls) ≡ bumps n c (l ∷ pairsOf n d l ++ flatMap (withPairs n d) ls) =
       sym (bumps-append n (bump n c l) (pairsOf n d l) (flatMap (withPairs n d) ls)) ∙ sym (bumps-more n c l _) in
       steps-are (g && all (onDisk n) (pairsOf n d l)) (bumps n (bump n c l) (pairsOf n d l)) ls ∙ λ j. run (a j) (b j)

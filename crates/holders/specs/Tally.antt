@@ -1,37 +1,30 @@
--- Holders counted in one pass over pages, lists and pairs: what the functions promise, and the report as the call answers it.
+-- Holders counted in one pass over pages, lists and pairs: what its functions promise.
 use mathlib.Core.Path.{_≡_}
-use mathlib.Core.Bool.{Bool, true, false, cond, _&&_}
+use mathlib.Core.Bool.{Bool, cond, _&&_}
 use mathlib.Core.List.{List, [], _∷_, _++_, flatMap, foldl}
 use Prim.Native.Nat.{ℕ, zero, suc, _+_, _*_}
-use lib.ListN.{length, getD, set}
+use lib.ListN.{getD, set}
 use lib.Dec.{ltb, eqb}
-use Rattle.lists.specs.Fill.{below}
-use Rattle.lists.specs.Select.{all, filter}
+use Rattle.lists.specs.Select.{all}
 use Rattle.outcome.specs.declared.Refusal.the-variants.{OffDisc}
-use Rattle.outcome.specs.Refusal.{code}
-use Rattle.outcome.specs.Outcome.{Outcome, refused, given, _>>=_, _>>_, require, number}
+use Rattle.outcome.specs.Outcome.{Outcome, given, _>>=_, _>>_, require, number}
 use Rattle.disk.specs.declared.Place.{Place}
-use Rattle.disk.specs.Disk.{place, start, onDisk, numberOf, sectors}
+use Rattle.disk.specs.Disk.{place, start, onDisk, numberOf, placeOf, sectors}
 use Rattle.disk.specs.Vtoc.{vtoc, readable}
 use Rattle.disk.specs.Chain.{walk}
-use Rattle.catalog.specs.Catalog.{Entry, live, entryFrom, soundPage, nextPage, firstPage}
+use Rattle.catalog.specs.Catalog.{live, entryFrom, soundPage, nextPage, firstPage}
 use Rattle.files.specs.Contents.{pairsOf, listWalk}
-use Rattle.holders.specs.declared.HolderCounts.{HolderCounts}
-use Rattle.holders.specs.Holders.{Holding, withPairs, free, placeOf}
+use Rattle.holders.specs.Holders.{withPairs, free}
 
 -- ---- a run of counts, one for each sector
 -- a count and one more: 2 stands for all above 1
-abbrev pub more : ℕ → ℕ
-more c = cond (ltb c 2) (c + 1) c
-
--- how many numbers below m pass a test
-abbrev pub passing : (ℕ → Bool) → ℕ → ℕ
-passing test m = length (filter test (below m))
+abbrev pub oneMore : ℕ → ℕ
+oneMore c = cond (ltb c 2) (c + 1) c
 
 module _ (n : ℕ) where
   -- the counts with a place more
   unfoldable pub bump : List ℕ → Place → List ℕ
-  bump c p = set c (numberOf n p) (more (getD c (numberOf n p) 0))
+  bump c p = set c (numberOf n p) (oneMore (getD c (numberOf n p) 0))
 
   -- .. and with some places more
   unfoldable pub bumps : List ℕ → List Place → List ℕ
@@ -114,14 +107,3 @@ isFree n d c k = ltb 0 (getD c k 0) && free n d (placeOf n k)
 -- .. by track and sector
 unfoldable pub isFreeIn : (n : ℕ) (d c : List ℕ) → (t s : ℕ) → Bool
 isFreeIn n d c t s = ltb 0 (getD c (n * t + s) 0) && free n d (place t s)
-
--- ---- the answer
--- a refusal: zeros
-abbrev pub noHolders : ℕ → HolderCounts
-noHolders r = record { refusal = r; unheld = 0; «held_once» = 0; shared = 0; «held_free» = 0; clean = false }
-
--- the report, or a refusal
-abbrev pub reported : Outcome Holding → HolderCounts
-reported (refused r) = noHolders (code r)
-reported (given h) =
-    record { refusal = 0; unheld = h .unheld; «held_once» = h .heldOnce; shared = h .shared; «held_free» = h .heldFree; clean = h .clean }

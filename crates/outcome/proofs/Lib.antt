@@ -1,2 +1,3 @@
 pub mod Words
 pub mod Outcome
+pub mod Silent
