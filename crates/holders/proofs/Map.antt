@@ -13,7 +13,7 @@ use Rattle.lists.specs.Select.{passing}
 use Rattle.lists.proofs.Split.{by-test}
 use Rattle.lists.proofs.Passing.{one, passing-none, passing-same, passing-add, passing-front}
 use Rattle.disk.specs.Disk.{perOf, place, placeOf, start}
-use Rattle.disk.specs.Vtoc.{vtoc, spare, mapWord, freeIn, freeBelow}
+use Rattle.disk.specs.Vtoc.{vtoc, spare, mapWord, mapOf, freeIn, freeBelow}
 use Rattle.disk.proofs.Places.{Per, per-known, map-bit, at-place}
 use Rattle.holders.specs.Holders.{bit, free}
 use Rattle.holders.specs.Claims.{MapAgrees}
@@ -40,16 +40,19 @@ unfolding spare
 map-short n m (inl e) h = rw e (omega arith)
 map-short n m (inr e) h = rw e (omega arith)
 
+-- bit s of a track's map is sector s's
+free-bit : (n : ℕ) (d : List ℕ) → Per n → (t s : ℕ) → free n d (place t s) ≡ eqb (bit s (mapOf n d t)) 1
+unfolding free bit
+free-bit n d per t s = ap (λ (w : ℕ). eqb (w % 2) 1) (sym (map-bit n (mapWord n d t) s per))
+
 module _ (n : ℕ) (d : List ℕ) (per : Per n) (bytes : Bytes d) where
   -- a track
   free-in : (t : ℕ) → freeIn n d t ≡ passing (λ s. free n d (place t s)) n
-  unfolding free bit
   free-in t =
       let h0 = bytes (start n vtoc + (56 + 4 * t)) in
       let h1 = bytes (start n vtoc + (57 + 4 * t)) in
       let m : ℕ = mapWord n d t in
-      ones-bits n (m / spare n) (map-short n m per (omega arith))
-      ∙ passing-same _ _ n (λ s l. ap (λ (w : ℕ). eqb (w % 2) 1) (map-bit n m s per))
+      ones-bits n (m / spare n) (map-short n m per (omega arith)) ∙ passing-same _ _ n (λ s l. sym (free-bit n d per t s))
 
   -- the tracks below t
   free-below : (t : ℕ) → freeBelow n d t ≡ passing (λ k. free n d (placeOf n k)) (n * t)
@@ -66,5 +69,6 @@ module _ (n : ℕ) (d : List ℕ) (per : Per n) (bytes : Bytes d) where
 pub map-agrees : (d : List ℕ) → MapAgrees d
 map-agrees d =
     record {
+      bits = free-bit (perOf d) d (per-known d);
       counts = λ b. let n : ℕ = perOf d in let e : 35 * n ≡ n * 35 = omega arith in rw e (sym (free-below n d (per-known d) b 35));
     }

@@ -4,16 +4,17 @@ use mathlib.Core.Bool.{true, false, not}
 use mathlib.Core.Logic.{_↔_}
 use mathlib.Core.List.{List, map}
 use Prim.Native.Nat.{ℕ, _+_, _≤_}
+use lib.Dec.{eqb}
 use Rattle.lists.specs.Every.{Every}
 use Rattle.lists.specs.Fill.{Bytes}
 use Rattle.lists.specs.Select.{among, Apart, passing}
 use Rattle.outcome.specs.declared.Refusal.{Refusal}
 use Rattle.outcome.specs.Outcome.{refused, given}
 use Rattle.disk.specs.declared.Place.{Place}
-use Rattle.disk.specs.Disk.{perOf, numberOf, placeOf, sectors}
-use Rattle.disk.specs.Vtoc.{freeBelow}
+use Rattle.disk.specs.Disk.{perOf, place, numberOf, placeOf, sectors}
+use Rattle.disk.specs.Vtoc.{mapOf, freeBelow}
 use Rattle.files.specs.Contents.{contents}
-use Rattle.holders.specs.Holders.{Holding, holding, holders, free}
+use Rattle.holders.specs.Holders.{Holding, holding, holders, bit, free}
 
 -- of a disk of n sectors a track with the report h, its holders being hs
 pub record Reported (n : ℕ) (d : List ℕ) (h : Holding) (hs : List Place) : Type 0 where
@@ -33,6 +34,9 @@ pub record Holdings (n : ℕ) (d : List ℕ) : Type 0 where
   -- else its numbers are those of its holders
   pub reports : (h : Holding) → holding n d ≡ given h → (hs : List Place) × (holders n d ≡ given hs) × Reported n d h hs
 
--- the map that is meant here is that of 01 and Req 12: as many sectors are free as the VTOC counts
+-- the map that is meant here is that of 01 and Req 12
 pub record MapAgrees (d : List ℕ) : Type 0 where
+  -- bit s of a track's map is sector s's
+  pub bits : (t s : ℕ) → free (perOf d) d (place t s) ≡ eqb (bit s (mapOf (perOf d) d t)) 1
+  -- as many sectors are free as the VTOC counts
   pub counts : Bytes d → passing (λ k. free (perOf d) d (placeOf (perOf d) k)) (sectors (perOf d)) ≡ freeBelow (perOf d) d 35

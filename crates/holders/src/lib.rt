@@ -143,13 +143,13 @@ fn hold_entry(disk: &[u8], per: u8, refusal: u8, x: usize, counts: &mut [u8]) ->
 }
 
 // Counts a page and the sectors of its entries.
-fn hold_page(disk: &[u8], per: u8, refusal: u8, p: Place, counts: &mut [u8]) -> u8
-    ensures { λ r. ⌜ Extends per (onPage per (now (disk .entry)) p) (now (counts .entry)) (now (counts .exit)) refusal r ⌝ }
+fn hold_page(disk: &[u8], per: u8, refusal: u8, page: Place, counts: &mut [u8]) -> u8
+    ensures { λ r. ⌜ Extends per (onPage per (now (disk .entry)) page) (now (counts .entry)) (now (counts .exit)) refusal r ⌝ }
 {
-    hold(counts, per, p);
+    hold(counts, per, page);
     let mut r = refusal;
     for i in 0..7u8 {
-        r = hold_entry(disk, per, r, entry_start(per, p, i), counts);
+        r = hold_entry(disk, per, r, entry_start(per, page, i), counts);
     }
     r
 }
@@ -314,9 +314,9 @@ fn holders_of(disk: &[u8], per: u8) -> HolderCounts
         return no_holders(number);
     }
     let total = 35 * (per as usize);
-    let unheld = count_held(&counts, total, 0);
     let once = count_held(&counts, total, 1);
     let shared = count_held(&counts, total, 2);
+    let unheld = count_held(&counts, total, 0);
     let free = count_free(disk, per, &counts);
     HolderCounts {
         refusal: 0,

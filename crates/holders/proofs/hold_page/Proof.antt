@@ -4,10 +4,10 @@ use Rattle.holders.proofs.hold_page.Statement.{statement}
 use Rattle.holders.proofs.hold_page.Tie as tie
 
 abbrev Inv-loop : tie.InvT-loop
-Inv-loop disk per refusal p counts₀ r₀ i₀ counts r i = Lines per disk p counts₀ r₀ i counts r
+Inv-loop disk per refusal page counts₀ r₀ i₀ counts r i = Lines per disk page counts₀ r₀ i counts r
 
 abbrev μ-loop : tie.MeasureT-loop
-μ-loop disk per refusal p counts₀ r₀ i₀ counts r i = 7 - i
+μ-loop disk per refusal page counts₀ r₀ i₀ counts r i = 7 - i
 
 pub hold-page-spec : {M : Type 1} → statement M
 hold-page-spec =
