@@ -245,6 +245,28 @@ def alike():
     return d
 
 
+# Sectors that serve two purposes, and held ones that the map calls free. Sectors in no chain that it calls used do not matter.
+def crossed():
+    d = Disk(254, 2)
+    lists, sectors = d.file('PAIR TWICE', 4, binary(line(61, 700)))
+    d.put(lists[0], 14, bytes(sectors[0]))
+    lists, _ = d.file('ONE LIST', 4, binary(line(62, 300)))
+    d.entry('THE SAME LIST', 4, lists[0], 3, locked=True)
+    lists, _ = d.file('HOLDS A PAGE', 4, binary(line(63, 500)))
+    d.put(lists[0], 14, bytes(d.pages[1]))
+    lists, _ = d.file('HOLDS THE VTOC', 4, binary(line(64, 500)))
+    d.put(lists[0], 14, bytes((17, 0)))
+    free, sectors = d.file('FREE IN THE MAP', 4, binary(line(65, 700)))
+    lists, _ = d.file('SHARED AND FREE', 4, binary(line(66, 500)))
+    d.put(lists[0], 14, bytes(sectors[1]))
+    d.file('LINE 7 RING 1', 4, binary(line(7, 700)), locked=True)
+    for p in (free[0], sectors[1]):
+        d.map(*p, True)
+    for s in range(12, 16):
+        d.map(30, s, False)
+    return d
+
+
 # A flat disk as nibbles (document 01: the nibble writer).
 WRITE = [0x96, 0x97, 0x9A, 0x9B, 0x9D, 0x9E, 0x9F, 0xA6, 0xA7, 0xAB, 0xAC, 0xAD, 0xAE, 0xAF, 0xB2, 0xB3,
          0xB4, 0xB5, 0xB6, 0xB7, 0xB9, 0xBA, 0xBB, 0xBC, 0xBD, 0xBE, 0xBF, 0xCB, 0xCD, 0xCE, 0xCF, 0xD3,
@@ -332,6 +354,7 @@ def main():
     two_editions(16).write('same-files.dsk')
     moved_catalog().write('moved-catalog.dsk')
     alike().write('alike.dsk')
+    crossed().write('crossed.dsk')
     with open(os.path.join(HERE, 'thirteen.nib'), 'wb') as f:
         f.write(nibbles_13(two_editions(13).d))
 

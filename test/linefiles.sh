@@ -150,7 +150,7 @@ patch link-bytes.dsk "$(at 18 15 2)" 09
 same list-link-bytes list link-bytes.dsk
 
 # list and survey as JSON: the same facts
-for disk in one-page several-pages ring ring-of-pages cut-link overlong alike; do
+for disk in one-page several-pages ring ring-of-pages cut-link overlong alike crossed; do
     same "list-json-$disk" list "samples/$disk.dsk" --json
     cp out "list-$disk.json"
     same "survey-json-$disk" --json survey "samples/$disk.dsk"
@@ -190,7 +190,7 @@ same svg-there map samples/full.dsk --svg outs/one.svg
 holds svg-there-kept cmp outs/one.svg "$root/docs/one-page.svg"
 same svg-ring map samples/ring.dsk --svg outs/none
 holds svg-nothing-left not test -e outs/none
-for disk in one-page.dsk one-page.nib several-pages.dsk full.dsk overlong.dsk last-pair.dsk alike.dsk thirteen.nib moved-catalog.dsk; do
+for disk in one-page.dsk one-page.nib several-pages.dsk full.dsk overlong.dsk last-pair.dsk alike.dsk thirteen.nib moved-catalog.dsk crossed.dsk; do
     run map "samples/$disk" --svg -
     cp out "${disk/./-}.svg"
 done
@@ -659,6 +659,119 @@ same list-thirteen-moved-off list moved.dsk
 patch moved.dsk "$(at_13 17 0 1)" 23 03
 same list-thirteen-moved-35 list moved.dsk
 
+# crossed: the sectors that serve two purposes, and the held ones that the map calls free; 0 where the disk is clean, 1 where it is not
+rm -f outs/*
+for disk in one-page several-pages full last-pair thirteen same-files moved-catalog alike crossed; do
+    same "crossed-$disk" crossed "samples/$disk.dsk"
+    holds "crossed-$disk-plain" plain out
+    body out >"crossed-$disk"
+done
+same crossed-one-page-nibbles crossed samples/one-page.nib
+same crossed-thirteen-nibbles crossed samples/thirteen.nib --13
+same list-crossed list samples/crossed.dsk
+same survey-crossed survey samples/crossed.dsk
+same map-crossed map samples/crossed.dsk
+"$root/linefiles" nibblize samples/crossed.dsk outs/crossed.nib >/dev/null
+same crossed-nibbles crossed outs/crossed.nib
+holds crossed-nibbles-equal diff crossed-crossed <(body out)
+"$root/linefiles" crossed - <samples/crossed.dsk >out 2>err
+holds crossed-dash test "$? $(sed 1d out | cksum)" = "1 $(cksum <crossed-crossed)"
+
+# one damaged disk for each way to share a sector: a pair twice in a list, a list of two entries, a page and the VTOC as data, the VTOC as its own first page
+damaged pair-twice.dsk one-page.dsk "$(at 18 15 14)" 12 0e
+same crossed-pair-twice crossed pair-twice.dsk
+damaged list-twice.dsk one-page.dsk "$(at 17 15 $((11 + 4 * 35)))" 1a 0b
+same crossed-list-twice crossed list-twice.dsk
+damaged page-as-data.dsk one-page.dsk "$(at 26 11 12)" 11 0f
+same crossed-page-as-data crossed page-as-data.dsk
+damaged vtoc-as-data.dsk one-page.dsk "$(at 26 11 12)" 11 00
+same crossed-vtoc-as-data crossed vtoc-as-data.dsk
+damaged list-as-data.dsk one-page.dsk "$(at 26 11 12)" 1a 0b 12 0b
+same crossed-list-as-data crossed list-as-data.dsk
+same crossed-vtoc-first crossed vtoc-first.dsk
+# six holders, and one more than are listed; sixteen of each
+damaged six.dsk one-page.dsk "$(at 18 11 12)" $(printf '12 0e %.0s' {1..5})
+same crossed-six crossed six.dsk
+damaged seven.dsk one-page.dsk "$(at 18 11 12)" $(printf '12 0e %.0s' {1..6})
+same crossed-seven crossed seven.dsk
+run crossed samples/overlong.dsk
+holds crossed-overlong test "$status $(grep -c '^  [0-9]*/[0-9]* *16  ' out) $(grep -cx ' *and 10 more' out) $(tail -n 1 out)" = \
+    '1 259 259 259 sectors shared, 0 held sectors free in the map: not clean'
+holds crossed-overlong-plain plain out
+holds crossed-overlong-first diff - <(sed -n 5,11p out) <<END
+  18/0         16  data of file 1 LINE 1
+                   data of file 2 LINE 2
+                   data of file 3 LINE 3
+                   data of file 4 LINE 4
+                   data of file 5 LINE 5
+                   data of file 6 LINE 6
+                   and 10 more
+END
+
+# held sectors that the map calls free: data, a list and its data, the VTOC and a page, those of files with odd names; free ones that it calls used do not matter
+damaged data-free.dsk one-page.dsk "$(at 17 0 $((56 + 4 * 18)))" 20
+same crossed-data-free crossed data-free.dsk
+damaged list-free.dsk one-page.dsk "$(at 17 0 $((56 + 4 * 26)))" 03
+same crossed-list-free crossed list-free.dsk
+damaged vtoc-free.dsk one-page.dsk "$(at 17 0 $((56 + 4 * 17)))" ff ff
+same crossed-vtoc-free crossed vtoc-free.dsk
+damaged all-free.dsk several-pages.dsk "$(at 17 0 $((56 + 4 * 17)))" $(printf 'ff ff 00 00 %.0s' {17..22})
+same crossed-all-free crossed all-free.dsk
+holds crossed-all-free-plain plain out
+damaged free-used.dsk one-page.dsk "$(at 17 0 $((56 + 4 * 30)))" 00 00 ff ff
+same crossed-free-used crossed free-used.dsk
+cp pair-twice.dsk shared-free.dsk
+patch shared-free.dsk "$(at 17 0 $((56 + 4 * 18)))" 40
+same crossed-shared-free crossed shared-free.dsk
+
+# the same with 13 sectors a track: a page as data; the highest bit of the map is sector 12's, the three lowest are no sector's
+damaged crossed-13.dsk thirteen.dsk "$(at_13 28 11 12)" 11 0c
+same crossed-thirteen-page-as-data crossed crossed-13.dsk
+patch crossed-13.dsk "$(at_13 17 0 $((56 + 4 * 18)))" 80 0f
+same crossed-thirteen-free crossed crossed-13.dsk
+damaged low-bits.dsk thirteen.dsk "$(at_13 17 0 $((57 + 4 * 18)))" 07
+run crossed low-bits.dsk
+holds crossed-thirteen-low-bits diff crossed-thirteen <(body out)
+
+# refused as `survey` is
+damaged no-table.dsk one-page.dsk "$(at 17 0 52)" 24
+damaged bad-letter.dsk several-pages.dsk "$(at 17 14 $((11 + 2 * 35 + 3 + 4)))" 80
+damaged list-off.dsk one-page.dsk "$(at 17 15 $((11 + 3 * 35)))" 1a 10
+damaged pair-off.dsk one-page.dsk "$(at 26 15 14)" 18 10
+damaged no-table-13.dsk thirteen.dsk "$(at_13 17 0 53)" 10
+head -c 143359 samples/one-page.dsk >short.dsk
+for disk in samples/ring.dsk samples/ring-of-pages.dsk samples/cut-link.dsk no-table.dsk off.dsk bad-letter.dsk list-off.dsk pair-off.dsk no-table-13.dsk short.dsk cut.nib; do
+    run survey "$disk"
+    echo "status $status" | cat out err - >surveyed
+    run crossed "$disk"
+    holds "crossed-refused-${disk##*/}" diff surveyed <(echo "status 1" | cat out err -)
+done
+same crossed-ring crossed samples/ring.dsk
+
+# agree DISK: map, survey, its object of JSON and crossed count the same sectors. In the map X and x are shared, and small letters are held and free.
+agree() {
+    local wanted='no false 1'
+    run map "$1"
+    sed -nE 's/^ +[0-9]+   ([^ ]+)$/\1/p' out >rows
+    echo "$(tr -cd .# <rows | wc -c) $(tr -cd VCLDvcld <rows | wc -c) $(tr -cd Xx <rows | wc -c) $(tr -cd vcldx <rows | wc -c)" >by-map
+    run survey "$1"
+    sed -nE 's/^  (unheld sectors|held once|shared sectors|held but free) +//p' out | xargs >by-survey
+    sed -nE 's/^  clean +//p' out >clean
+    run survey "$1" --json
+    sed -nE 's/^  "(unheld|held_once|shared|held_free)": ([0-9]+),$/\2/p' out | xargs >by-json
+    sed -n 's/^  "clean": //p' out >>clean
+    run crossed "$1"
+    awk '/^Sectors with/ { kind = 1 } /^Held sectors/ { kind = 2 } /^  [0-9]+\/[0-9]+ / { n[kind]++ } END { print n[1] + 0, n[2] + 0 }' out >by-crossed
+    [ "$(cat by-crossed)" != '0 0' ] || wanted='yes true 0'
+    diff by-map by-survey && diff by-map by-json && diff <(cut -d' ' -f3-4 by-map) by-crossed && diff <(echo "$(xargs <clean) $status") <(echo "$wanted") &&
+        awk '{ exit $1 + $2 + $3 != 560 && $1 + $2 + $3 != 455 }' by-map
+}
+for disk in samples/{one-page,several-pages,full,overlong,last-pair,thirteen,same-files,moved-catalog,alike,crossed}.dsk samples/{one-page,thirteen}.nib \
+    {pair-twice,list-twice,page-as-data,vtoc-as-data,list-as-data,vtoc-first,six,seven,data-free,list-free,vtoc-free,all-free,free-used,shared-free,crossed-13,low-bits}.dsk; do
+    holds "agree-${disk##*/}" agree "$disk"
+done
+rm -f outs/*
+
 # the options
 same option-both list samples/thirteen.nib --13 --16
 same option-both-apart --16 list samples/thirteen.nib --13
@@ -677,6 +790,7 @@ for option in --force --svg --all --empty --16; do same "option-show$option" sho
 for option in --json --raw --svg --all --empty; do same "option-archive$option" archive samples/one-page.dsk outs/none $option; done
 same option-list-force list samples/one-page.dsk --force
 same option-map-json map samples/one-page.dsk --json
+for option in --raw --json --force --svg --16; do same "option-crossed$option" crossed samples/one-page.dsk $option; done
 holds option-nothing-left not test -e outs/none
 cp samples/one-page.dsk ./--raw
 cp samples/one-page.dsk ./-
@@ -824,6 +938,8 @@ if [ -w /dev/full ]; then
     full full-list list samples/one-page.dsk
     full full-survey survey samples/one-page.dsk
     full full-map map samples/one-page.dsk
+    full full-crossed crossed samples/one-page.dsk
+    full full-crossed-not-clean crossed samples/crossed.dsk
     full full-archive archive samples/one-page.dsk outs/written
     full full-check check samples/one-page.dsk outs/written
     full full-show show outs/written
@@ -917,7 +1033,7 @@ same too-many list samples/one-page.dsk samples/full.dsk
 same no-disk survey
 run get samples/several-pages.dsk "$(printf '%05000d' 7)" outs/none
 holds long-argument test "$status $(cat err)" = '2 linefiles: an argument is longer than 4096 bytes'
-for command in map archive check show nibblize denibblize; do same "usage-$command" "$command"; done
+for command in map crossed archive check show nibblize denibblize; do same "usage-$command" "$command"; done
 same usage-map-svg map samples/one-page.dsk --svg
 for word in help --version; do
     "$root/linefiles" $word >/dev/full 2>err

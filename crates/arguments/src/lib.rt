@@ -15,17 +15,19 @@ pub const SURVEY: u8 = 2;
 
 pub const MAP: u8 = 3;
 
-pub const GET: u8 = 4;
+pub const CROSSED: u8 = 4;
 
-pub const ARCHIVE: u8 = 5;
+pub const GET: u8 = 5;
 
-pub const CHECK: u8 = 6;
+pub const ARCHIVE: u8 = 6;
 
-pub const SHOW: u8 = 7;
+pub const CHECK: u8 = 7;
 
-pub const NIBBLIZE: u8 = 8;
+pub const SHOW: u8 = 8;
 
-pub const DENIBBLIZE: u8 = 9;
+pub const NIBBLIZE: u8 = 9;
+
+pub const DENIBBLIZE: u8 = 10;
 
 // The options.
 pub const FORCE: u8 = 1;
@@ -56,7 +58,7 @@ fn cell_of(w: &[u8]) -> [u8; 10] {
 
 // The number of the cell in a table, from 1 on; 0 where it has none.
 fn number_in(table: &[u8], cell: &[u8]) -> u8 {
-    for k in 0..9u8 {
+    for k in 0..10u8 {
         if lists::same(lists::part(table, 10 * (k as usize), 10), cell) {
             return k + 1;
         }
@@ -71,6 +73,7 @@ pub fn command_of(w: &[u8]) -> u8 {
         b"list\0\0\0\0\0\0\
           survey\0\0\0\0\
           map\0\0\0\0\0\0\0\
+          crossed\0\0\0\
           get\0\0\0\0\0\0\0\
           archive\0\0\0\
           check\0\0\0\0\0\
@@ -190,7 +193,7 @@ pub fn out_word(command: u8, first: usize) -> usize {
 // How many words a command wants behind it.
 fn wants(command: u8, first: usize) -> usize {
     match command {
-        LIST | SURVEY | SHOW => 1,
+        LIST | SURVEY | CROSSED | SHOW => 1,
         MAP => {
             if has_option(first, SVG) {
                 return 2;
@@ -286,6 +289,7 @@ pub fn usage(command: u8) -> u8 {
         LIST => tell(b"list DISK [--raw] [--json] [--13 | --16]"),
         SURVEY => tell(b"survey DISK [--json] [--13 | --16]"),
         MAP => tell(b"map DISK [--svg OUT [--force]] [--13 | --16]"),
+        CROSSED => tell(b"crossed DISK [--13 | --16]"),
         GET => tell(
             b"get DISK NAME OUT [--empty] [--force] [--13 | --16]\n       linefiles get DISK --all FOLDER [--empty] [--force] [--13 | --16]",
         ),

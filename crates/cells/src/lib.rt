@@ -2,6 +2,7 @@
 use disk::Place;
 use disk::Sector;
 use disk::Track;
+use holders::is_free;
 use pen::add;
 use pen::colours::dark;
 use pen::colours::light;
@@ -12,8 +13,8 @@ use uses::DATA;
 use uses::LIST;
 use uses::PAGE;
 use uses::VTOC;
-use uses::is_free;
 use uses::is_shared;
+use uses::name_of;
 use uses::owner;
 use uses::role;
 use uses::use_at;
@@ -42,16 +43,6 @@ fn seat_of(disk: &[u8], per: u8, uses: &[u32], track: u8, sector: u8) -> Seat {
 // In a chain, and free in the map.
 fn is_loose(s: Seat) -> bool {
     (role(s.number) != 0) & s.free
-}
-
-// The shown name of a file, by its number from 1 on: an entry has 37 bytes.
-pub fn name_of(entries: &[u8], file: u32) -> &[u8] {
-    let at = 37 * ((file % 65536) as usize);
-    if at < 37 {
-        return lists::part(entries, 0, 0);
-    }
-    let n = lists::byte_at(entries, at - 33) as usize;
-    lists::part(entries, at - 32, n)
 }
 
 // The style of a square.

@@ -2,6 +2,7 @@
 use file_walk::Purpose;
 use file_walk::follow_files;
 use file_walk::refuse;
+use holders::HolderCounts;
 use libc::STDOUT_FILENO;
 use outcome::NO_TABLE;
 use page_walk::follow_pages;
@@ -150,7 +151,7 @@ fn survey_line(what: &[u8], n: u64) {
     right(STDOUT_FILENO, n, 9);
 }
 
-fn survey_lines(s: files::DiskSurvey) -> u8 {
+fn survey_lines(s: files::DiskSurvey) {
     survey_line(b"\n  volume        ", s.volume as u64);
     survey_line(b"\n  entries       ", s.entries as u64);
     survey_line(b"\n  free sectors  ", s.free as u64);
@@ -158,7 +159,17 @@ fn survey_lines(s: files::DiskSurvey) -> u8 {
     survey_line(b"\n  percent used  ", s.percent_used as u64);
     survey_line(b"\n  archive blocks", s.archive_blocks);
     survey_line(b"\n  links followed", s.links);
-    finish(b"\n")
+}
+
+fn holder_lines(h: HolderCounts) -> u8 {
+    survey_line(b"\n  unheld sectors", h.unheld as u64);
+    survey_line(b"\n  held once     ", h.held_once as u64);
+    survey_line(b"\n  shared sectors", h.shared as u64);
+    survey_line(b"\n  held but free ", h.held_free as u64);
+    if h.clean {
+        return finish(b"\n  clean               yes\n");
+    }
+    finish(b"\n  clean                no\n")
 }
 
 // A key of the survey, whose value is null where the disk is refused.
@@ -169,7 +180,7 @@ fn survey_key(key: &[u8], known: bool, n: u64) {
     json::known(known, n);
 }
 
-fn survey_keys(known: bool, s: files::DiskSurvey) -> u8 {
+fn survey_keys(known: bool, s: files::DiskSurvey) {
     survey_key(b"volume", known, s.volume as u64);
     survey_key(b"entries", known, s.entries as u64);
     survey_key(b"free", known, s.free as u64);
@@ -177,30 +188,53 @@ fn survey_keys(known: bool, s: files::DiskSurvey) -> u8 {
     survey_key(b"percent_used", known, s.percent_used as u64);
     survey_key(b"archive_blocks", known, s.archive_blocks);
     survey_key(b"links", known, s.links);
+}
+
+// Whether the disk is clean; null where that is not known.
+fn clean_value(known: bool, clean: bool) {
+    if known {
+        json::boolean(clean);
+        return;
+    }
+    json::known(false, 0);
+}
+
+fn holder_keys(known: bool, h: HolderCounts) -> u8 {
+    survey_key(b"unheld", known, h.unheld as u64);
+    survey_key(b"held_once", known, h.held_once as u64);
+    survey_key(b"shared", known, h.shared as u64);
+    survey_key(b"held_free", known, h.held_free as u64);
+    say(b",\n  \"clean\": ");
+    clean_value(known, h.clean);
     finish(b"\n}\n")
+}
+
+// The object of a disk, or of none: its values are null where there is a refusal.
+fn survey_object(refusal: u8, s: files::DiskSurvey, h: HolderCounts) -> u8 {
+    json::refusal(refusal);
+    survey_keys(refusal == 0, s);
+    holder_keys(refusal == 0, h)
 }
 
 // A disk that a stream does not hold: nothing is surveyed.
 pub fn none_surveyed(refusal: u8) {
-    json::refusal(refusal);
-    let s = files::survey(b"");
-    survey_keys(false, s);
+    survey_object(refusal, files::survey(b""), holders::holders(b""));
 }
 
-fn show_survey(s: files::DiskSurvey, object: bool) -> u8 {
+fn show_survey(s: files::DiskSurvey, h: HolderCounts, object: bool) -> u8 {
     if object {
-        json::refusal(s.refusal);
-        return survey_keys(s.refusal == 0, s);
+        return survey_object(s.refusal, s, h);
     }
     if s.refusal != 0 {
         return GOOD;
     }
-    survey_lines(s)
+    survey_lines(s);
+    holder_lines(h)
 }
 
 pub fn survey(disk: &[u8], object: bool) -> u8 {
     let s = files::survey(disk);
-    let status = show_survey(s, object);
+    let status = show_survey(s, holders::holders(disk), object);
     if s.refusal != 0 {
         return refuse(disk, s.refusal);
     }

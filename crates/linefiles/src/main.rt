@@ -3,6 +3,7 @@
 use arguments::ALL;
 use arguments::ARCHIVE;
 use arguments::CHECK;
+use arguments::CROSSED;
 use arguments::DENIBBLIZE;
 use arguments::EMPTY;
 use arguments::FORCE;
@@ -86,6 +87,14 @@ fn draw_map(disk: &[u8], from: &[u8], first: usize) -> u8 {
     }
     picture::draw(disk);
     finish(b"\n")
+}
+
+fn crossed(disk: &[u8]) -> u8 {
+    let h = holders::holders(disk);
+    if h.refusal != 0 {
+        return refuse(disk, h.refusal);
+    }
+    crossing::list(disk, h)
 }
 
 fn get_one(disk: &[u8], first: usize) -> u8 {
@@ -178,6 +187,7 @@ fn on_flat(command: u8, from: &[u8], disk: &[u8], first: usize) -> u8 {
         LIST => disk_report::list(disk, has_option(first, RAW), has_option(first, JSON)),
         SURVEY => disk_report::survey(disk, has_option(first, JSON)),
         MAP => draw_map(disk, from, first),
+        CROSSED => crossed(disk),
         GET => get(disk, first),
         ARCHIVE => write_archive(disk, first),
         CHECK => check(disk, first),

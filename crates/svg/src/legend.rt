@@ -4,7 +4,6 @@ use cells::LOOSE;
 use cells::LOST;
 use cells::SHARED;
 use cells::count;
-use cells::name_of;
 use lists::byte_at;
 use lists::part;
 use lists::word_at;
@@ -16,6 +15,7 @@ use uses::DATA;
 use uses::LIST;
 use uses::PAGE;
 use uses::VTOC;
+use uses::name_of;
 
 // The files that are shown.
 pub const MOST: u32 = 120;

@@ -1,12 +1,11 @@
-// What each sector of a disk serves, by the chains, and whether the VTOC's map calls it free. The library has followed the chains before; here nothing is decided.
-// A sector has one number: its first role, 8 more where it is shared, and 16 times the number of the file that has it first.
+// What each sector of a disk serves, by the chains: how many holders it has, and the first of them. The library has followed the chains before; here nothing is decided.
+// A sector has 7 numbers: how many hold it, and one for each of the first 6. That of a holder is its role, and 16 times the number of its file.
 use catalog::entry_list;
 use catalog::entry_start;
 use catalog::first_page;
 use catalog::last_page;
 use catalog::valid_file;
 use disk::Place;
-use disk::byte_of;
 use disk::link_of;
 use disk::sectors_of;
 use files::MAX_PAIRS;
@@ -28,18 +27,52 @@ pub const DATA: u32 = 4;
 
 const SHARED: u32 = 8;
 
-// The bit of a sector in its byte of the map.
-const BITS: [u8; 8] = [1, 2, 4, 8, 16, 32, 64, 128];
+// The holders that are kept of a sector.
+pub const KEPT: u32 = 6;
 
-// The number of a sector; 0 past the end.
-pub fn use_at(uses: &[u32], k: usize) -> u32 {
-    if k < uses.len() {
-        return uses[k];
+// The numbers of a sector.
+const WIDTH: usize = 7;
+
+// Where number i of a sector stands; past the end where it has none.
+fn number_place(k: usize, i: u32) -> usize {
+    if k < 560 {
+        if i <= KEPT {
+            return WIDTH * k + i as usize;
+        }
+    }
+    WIDTH * 560
+}
+
+fn number_at(uses: &[u32], at: usize) -> u32 {
+    if at < uses.len() {
+        return uses[at];
     }
     0
 }
 
-// The first role of a sector, of its number.
+// How many hold a sector.
+pub fn held_at(uses: &[u32], k: usize) -> u32 {
+    number_at(uses, number_place(k, 0))
+}
+
+// The number of a holder of a sector, from 0 on; 0 where there is none, or it is not kept.
+pub fn holder_at(uses: &[u32], k: usize, i: u32) -> u32 {
+    if i < KEPT {
+        return number_at(uses, number_place(k, i + 1));
+    }
+    0
+}
+
+// The number of its first holder, and 8 more where it is shared.
+pub fn use_at(uses: &[u32], k: usize) -> u32 {
+    let first = holder_at(uses, k, 0);
+    if 1 < held_at(uses, k) {
+        return first | SHARED;
+    }
+    first
+}
+
+// The role of a holder, of its number.
 pub fn role(n: u32) -> u32 {
     n % 8
 }
@@ -49,26 +82,47 @@ pub fn is_shared(n: u32) -> bool {
     n / 8 % 2 == 1
 }
 
-// The file that has it first: 1 for the first live entry of the catalog; 0 for none.
+// The file of a holder: 1 for the first live entry of the catalog; 0 for none.
 pub fn owner(n: u32) -> u32 {
     n / 16
 }
 
-fn put(uses: &mut [u32], k: usize, n: u32) {
-    if k < uses.len() {
-        uses[k] = n;
+// The shown name of a file, by its number from 1 on: an entry has 37 bytes.
+pub fn name_of(entries: &[u8], file: u32) -> &[u8] {
+    let at = 37 * ((file % 65536) as usize);
+    if at < 37 {
+        return lists::part(entries, 0, 0);
+    }
+    let n = byte_at(entries, at - 33) as usize;
+    lists::part(entries, at - 32, n)
+}
+
+fn put(uses: &mut [u32], at: usize, n: u32) {
+    if at < uses.len() {
+        uses[at] = n;
     }
 }
 
-// Gives a sector its use; one that had a use before is shared.
+// One more holder; no disk has as many as there are numbers.
+fn grown(n: u32) -> u32 {
+    if n < 4294967295 {
+        return n + 1;
+    }
+    n
+}
+
+// Gives a sector a holder more.
 fn give(uses: &mut [u32], per: u8, p: Place, role: u32, file: u64) {
     let k = sector_number(per, p);
-    let n = use_at(uses, k);
-    if n == 0 {
-        put(uses, k, role % 8 + 16 * ((file % 65536) as u32));
-        return;
+    let n = grown(held_at(uses, k));
+    put(uses, number_place(k, 0), n);
+    if n <= KEPT {
+        put(
+            uses,
+            number_place(k, n),
+            role % 8 + 16 * ((file % 65536) as u32),
+        );
     }
-    put(uses, k, n | SHARED);
 }
 
 fn give_pairs(disk: &[u8], per: u8, p: Place, file: u64, uses: &mut [u32]) {
@@ -124,34 +178,15 @@ fn give_pages(disk: &[u8], per: u8, uses: &mut [u32]) {
     }
 }
 
-fn none() -> [u32; 560] {
-    [0; 560]
+fn none() -> [u32; 3920] {
+    [0; 3920]
 }
 
 // The numbers of the sectors of a disk that is not refused.
-pub fn uses_of(disk: &[u8]) -> [u32; 560] {
+pub fn uses_of(disk: &[u8]) -> [u32; 3920] {
     let per = sectors_of(disk);
     let mut uses = none();
     give(&mut uses, per, vtoc(), VTOC, 0);
     give_pages(disk, per, &mut uses);
     uses
-}
-
-// The bit of a sector in the two bytes of its track, byte 0 above byte 1: of 13 sectors, the three bits below are no sector's.
-fn map_bit(per: u8, sector: u8) -> u16 {
-    if per == 13 {
-        return sector as u16 + 3;
-    }
-    sector as u16
-}
-
-// Whether the VTOC's map calls a sector free.
-pub fn is_free(disk: &[u8], per: u8, p: Place) -> bool {
-    let at = 56 + 4 * (p.track.0 as u16);
-    let k = map_bit(per, p.sector.0);
-    let bit = BITS[(k % 8) as usize];
-    if k < 8 {
-        return byte_of(disk, per, vtoc(), at + 1) & bit != 0;
-    }
-    byte_of(disk, per, vtoc(), at) & bit != 0
 }
