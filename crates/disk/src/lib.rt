@@ -68,7 +68,7 @@ pub fn link_of(disk: &[u8], per: u8, p: Place) -> Place
 }
 
 // Byte k of the volume table of contents, which stands on track 17, sector 0.
-pub fn vtoc_byte(disk: &[u8], per: u8, k: u16) -> u8
+fn vtoc_byte(disk: &[u8], per: u8, k: u16) -> u8
     ensures { λ r. ⌜ r ≡ byteOf per (now (disk .entry)) vtoc k ⌝ }
 {
     byte_of(
