@@ -27,15 +27,18 @@ use Rattle.disk.specs.Disk.{perOf, byteOf}
 use Rattle.disk.specs.Vtoc.{vtoc, blank, readable, tableOf, parsed}
 use Rattle.disk.specs.Window.{part}
 use Rattle.files.specs.declared.DiskSurvey.{DiskSurvey}
-use Rattle.files.specs.Contents.{File, Contents}
-use Rattle.files.specs.Survey.{Survey, survey, surveyed}
+use Rattle.files.specs.Contents.{File}
+use Rattle.files.specs.Survey.{survey, surveyed}
+use Rattle.holders.specs.declared.HolderCounts.{HolderCounts}
+use Rattle.holders.specs.Holders.{holding}
+use Rattle.holders.specs.Tally.{reported}
 use Rattle.archive.specs.Reader.{opened}
 use Rattle.reader.specs.declared.Opened.{Opened}
 use Rattle.reader.specs.declared.Entry.{Entry}
 use Rattle.reader.specs.Steps.{openedWith, entryOf, fieldsOf, entryWith, isEntry, entryStep}
 use Rattle.records.specs.declared.Format.{Format}
 use Rattle.records.specs.Formats.{recognized, formatOf}
-use Rattle.host.specs.Exports.{Exports, Fields, lettersFor, lettersOf, vtocValues, vtocNumbers, surveyNumbers, openNumbers, entryFields, entryNumbers, formatNumbers}
+use Rattle.host.specs.Exports.{Exports, Fields, lettersFor, lettersOf, vtocValues, vtocNumbers, surveyFields, surveyNumbers, holderFields, holderNumbers, openNumbers, entryFields, entryNumbers, formatNumbers}
 
 -- ---- the elements
 pub fields-copied : (v : List ℕ) (k : ℕ) (d o : List ℕ) → FillTo (λ j. getD v j 0) (length v) k d o → length v ≤ k → o ≡ v ++ drop (length v) d
@@ -58,28 +61,53 @@ refused-fields o q d r e h = record { result = h ∙ rw e refl; left = rw e refl
 given-fields : (o : Outcome (List ℕ)) (v d o′ : List ℕ) (r : ℕ) → o ≡ given v → Fields (given v) d o′ r → Fields o d o′ r
 given-fields o v d o′ r e h = subst (λ (x : Outcome (List ℕ)). Fields x d o′ r) (sym e) h
 
+-- A library answers an outcome p by a struct, `answer p`: `refusalIn` it is the number of a refusal, or 0 and then `valuesIn` it are handed over.
+module _ {A S : Type 0} (answer : Outcome A → S) (refusalIn : S → ℕ) (valuesIn : S → List ℕ) (values : A → List ℕ)
+    (no : (q : Refusal) → refusalIn (answer (refused q)) ≡ code q)
+    (yes : (v : A) → refusalIn (answer (given v)) ≡ 0)
+    (same : (v : A) → valuesIn (answer (given v)) ≡ values v) where
+  answer-refused : (p : Outcome A) (s : S) (d : List ℕ) → s ≡ answer p → (refusalIn s ≡ 0 → ⊥) → Fields (p >>= λ v. given (values v)) d d (refusalIn s)
+  answer-refused (refused q) s d h z = refused-fields (refused q) q d (refusalIn s) refl (ap refusalIn h ∙ no q)
+  answer-refused (given v) s d h z = absurd (z (ap refusalIn h ∙ yes v))
+
+  answer-is : (p : Outcome A) (s : S) → s ≡ answer p → refusalIn s ≡ 0 → (p >>= λ v. given (values v)) ≡ given (valuesIn s)
+  answer-is (refused q) s h z = absurd (omega (arith, code-pos q, ap refusalIn h ∙ no q))
+  answer-is (given v) s h z = ap given (sym (ap valuesIn h ∙ same v))
+
+  answer-given : (p : Outcome A) (s : S) → s ≡ answer p → refusalIn s ≡ 0 → (d o : List ℕ) (r : ℕ) → Fields (given (valuesIn s)) d o r → Fields (p >>= λ v. given (values v)) d o r
+  answer-given p s h z d o r u = given-fields (p >>= λ v. given (values v)) (valuesIn s) d o r (answer-is p s h z) u
+
+-- ---- the survey
+abbrev surveyIn : DiskSurvey → List ℕ
+surveyIn s = s .volume ∷ s .entries ∷ s .free ∷ s .used ∷ s .«percent_used» ∷ s .«archive_blocks» ∷ s .links ∷ []
+
 module _ (x : List ℕ) (d : List ℕ) where
-  -- ---- the survey
-  survey-no : (p : Outcome Survey) (s : DiskSurvey) → survey (perOf x) x ≡ p → s ≡ surveyed p → (s .refusal ≡ 0 → ⊥) → Fields (surveyNumbers x) d d (s .refusal)
-  unfolding surveyNumbers
-  survey-no (refused q) s e h z = refused-fields (surveyNumbers x) q d (s .refusal) (rw e refl) (ap (λ (y : DiskSurvey). y .refusal) h)
-  survey-no (given v) s e h z = absurd (z (ap (λ (y : DiskSurvey). y .refusal) h))
-
   pub survey-refused : (s : DiskSurvey) → s ≡ surveyed (survey (perOf x) x) → (s .refusal ≡ 0 → ⊥) → Fields (surveyNumbers x) d d (s .refusal)
-  survey-refused s h z = survey-no (survey (perOf x) x) s refl h z
-
-  survey-yes : (p : Outcome Survey) (s : DiskSurvey) → survey (perOf x) x ≡ p → s ≡ surveyed p → s .refusal ≡ 0
-      → surveyNumbers x ≡ given (s .volume ∷ s .entries ∷ s .free ∷ s .used ∷ s .«percent_used» ∷ s .«archive_blocks» ∷ s .links ∷ [])
   unfolding surveyNumbers
-  survey-yes (refused q) s e h z = absurd (omega (arith, code-pos q, ap (λ (y : DiskSurvey). y .refusal) h))
-  survey-yes (given v) s e h z =
-      rw (surveyNumbers, e) (sym (ap (λ (y : DiskSurvey). given (y .volume ∷ y .entries ∷ y .free ∷ y .used ∷ y .«percent_used» ∷ y .«archive_blocks» ∷ y .links ∷ [])) h))
+  survey-refused s h z = answer-refused surveyed (λ t. t .refusal) surveyIn surveyFields (λ q. refl) (λ v. refl) (λ v. refl) (survey (perOf x) x) s d h z
 
   pub survey-given : (s : DiskSurvey) → s ≡ surveyed (survey (perOf x) x) → s .refusal ≡ 0 → (o : List ℕ) (r : ℕ)
-      → Fields (given (s .volume ∷ s .entries ∷ s .free ∷ s .used ∷ s .«percent_used» ∷ s .«archive_blocks» ∷ s .links ∷ [])) d o r → Fields (surveyNumbers x) d o r
-  survey-given s h z o r u = given-fields (surveyNumbers x) _ d o r (survey-yes (survey (perOf x) x) s refl h z) u
+      → Fields (given (surveyIn s)) d o r → Fields (surveyNumbers x) d o r
+  unfolding surveyNumbers
+  survey-given s h z o r u = answer-given surveyed (λ t. t .refusal) surveyIn surveyFields (λ q. refl) (λ v. refl) (λ v. refl) (survey (perOf x) x) s h z d o r u
 
 pub ruleset surveying = (survey-refused, survey-given, needs)
+
+-- ---- the holders
+abbrev holdersIn : HolderCounts → List ℕ
+holdersIn s = s .unheld ∷ s .«held_once» ∷ s .shared ∷ s .«held_free» ∷ cond (s .clean) 1 0 ∷ []
+
+module _ (x : List ℕ) (d : List ℕ) where
+  pub holders-refused : (s : HolderCounts) → s ≡ reported (holding (perOf x) x) → (s .refusal ≡ 0 → ⊥) → Fields (holderNumbers x) d d (s .refusal)
+  unfolding holderNumbers
+  holders-refused s h z = answer-refused reported (λ t. t .refusal) holdersIn holderFields (λ q. refl) (λ v. refl) (λ v. refl) (holding (perOf x) x) s d h z
+
+  pub holders-given : (s : HolderCounts) → s ≡ reported (holding (perOf x) x) → s .refusal ≡ 0 → (n : ℕ) → n ≡ cond (s .clean) 1 0 → (o : List ℕ) (r : ℕ)
+      → Fields (given (s .unheld ∷ s .«held_once» ∷ s .shared ∷ s .«held_free» ∷ n ∷ [])) d o r → Fields (holderNumbers x) d o r
+  unfolding holderNumbers
+  holders-given s h z n e o r u = answer-given reported (λ t. t .refusal) holdersIn holderFields (λ q. refl) (λ v. refl) (λ v. refl) (holding (perOf x) x) s h z d o r (rw e at u)
+
+pub ruleset reporting = (holders-refused, holders-given, needs)
 
 -- ---- the VTOC
 module _ (x : List ℕ) (d : List ℕ) where
@@ -118,23 +146,17 @@ bit-no b e = rw e refl
 pub ruleset tabling = (vtoc-refused, vtoc-given, bit-yes, bit-no, needs)
 
 -- ---- an archive
+abbrev openIn : Opened → List ℕ
+openIn s = s .volume ∷ s .first ∷ s .blocks ∷ []
+
 module _ (a : List ℕ) (d : List ℕ) where
-  open-no : (p : Outcome Contents) (s : Opened) → opened a ≡ p → s ≡ openedWith p → (s .refusal ≡ 0 → ⊥) → Fields (openNumbers a) d d (s .refusal)
-  unfolding openNumbers
-  open-no (refused q) s e h z = refused-fields (openNumbers a) q d (s .refusal) (rw e refl) (ap (λ (y : Opened). y .refusal) h)
-  open-no (given c) s e h z = absurd (z (ap (λ (y : Opened). y .refusal) h))
-
   pub open-refused : (s : Opened) → s ≡ openedWith (opened a) → (s .refusal ≡ 0 → ⊥) → Fields (openNumbers a) d d (s .refusal)
-  open-refused s h z = open-no (opened a) s refl h z
-
-  open-yes : (p : Outcome Contents) (s : Opened) → opened a ≡ p → s ≡ openedWith p → s .refusal ≡ 0 → openNumbers a ≡ given (s .volume ∷ s .first ∷ s .blocks ∷ [])
   unfolding openNumbers
-  open-yes (refused q) s e h z = absurd (omega (arith, code-pos q, ap (λ (y : Opened). y .refusal) h))
-  open-yes (given c) s e h z = rw (openNumbers, e) (sym (ap (λ (y : Opened). given (y .volume ∷ y .first ∷ y .blocks ∷ [])) h))
+  open-refused s h z = answer-refused openedWith (λ t. t .refusal) openIn _ (λ q. refl) (λ c. refl) (λ c. refl) (opened a) s d h z
 
-  pub open-given : (s : Opened) → s ≡ openedWith (opened a) → s .refusal ≡ 0 → (o : List ℕ) (r : ℕ)
-      → Fields (given (s .volume ∷ s .first ∷ s .blocks ∷ [])) d o r → Fields (openNumbers a) d o r
-  open-given s h z o r u = given-fields (openNumbers a) (s .volume ∷ s .first ∷ s .blocks ∷ []) d o r (open-yes (opened a) s refl h z) u
+  pub open-given : (s : Opened) → s ≡ openedWith (opened a) → s .refusal ≡ 0 → (o : List ℕ) (r : ℕ) → Fields (given (openIn s)) d o r → Fields (openNumbers a) d o r
+  unfolding openNumbers
+  open-given s h z o r u = answer-given openedWith (λ t. t .refusal) openIn _ (λ q. refl) (λ c. refl) (λ c. refl) (opened a) s h z d o r u
 
   -- an entry beside no refusal
   entry-zero : (i : ℕ) (fs : List File) (b : ℕ) → entryOf i fs b .refusal ≡ 0
@@ -142,22 +164,14 @@ module _ (a : List ℕ) (d : List ℕ) where
   entry-zero i [] b = refl
   entry-zero i (f ∷ fs) b = by-test (eqb i b) (λ e. rw e refl) (λ e. rw e (entry-zero _ fs b))
 
-  entry-no : (b : ℕ) (p : Outcome Contents) (s : Entry) → opened a ≡ p → s ≡ entryWith p b → (s .refusal ≡ 0 → ⊥) → Fields (entryNumbers a b) d d (s .refusal)
-  unfolding entryNumbers
-  entry-no b (refused q) s e h z = refused-fields (entryNumbers a b) q d (s .refusal) (rw e refl) (ap (λ (y : Entry). y .refusal) h)
-  entry-no b (given c) s e h z = absurd (z (ap (λ (y : Entry). y .refusal) h ∙ entry-zero 1 (c .files) b))
-
   pub entry-refused : (b : ℕ) (s : Entry) → s ≡ entryWith (opened a) b → (s .refusal ≡ 0 → ⊥) → Fields (entryNumbers a b) d d (s .refusal)
-  entry-refused b s h z = entry-no b (opened a) s refl h z
-
-  entry-yes : (b : ℕ) (p : Outcome Contents) (s : Entry) → opened a ≡ p → s ≡ entryWith p b → s .refusal ≡ 0 → entryNumbers a b ≡ given (entryFields s)
   unfolding entryNumbers
-  entry-yes b (refused q) s e h z = absurd (omega (arith, code-pos q, ap (λ (y : Entry). y .refusal) h))
-  entry-yes b (given c) s e h z = rw (entryNumbers, e) (sym (ap (λ (y : Entry). given (entryFields y)) h))
+  entry-refused b s h z = answer-refused (λ p. entryWith p b) (λ t. t .refusal) entryFields _ (λ q. refl) (λ c. entry-zero 1 (c .files) b) (λ c. refl) (opened a) s d h z
 
   pub entry-given : (b : ℕ) (s : Entry) → s ≡ entryWith (opened a) b → s .refusal ≡ 0 → (o : List ℕ) (r : ℕ)
       → Fields (given (entryFields s)) d o r → Fields (entryNumbers a b) d o r
-  entry-given b s h z o r u = given-fields (entryNumbers a b) (entryFields s) d o r (entry-yes b (opened a) s refl h z) u
+  unfolding entryNumbers
+  entry-given b s h z o r u = answer-given (λ p. entryWith p b) (λ t. t .refusal) entryFields _ (λ q. refl) (λ c. entry-zero 1 (c .files) b) (λ c. refl) (opened a) s h z d o r u
 
   -- a step, whatever the block
   none-past : (b : ℕ) → ltb b 4096 ≡ false → entryStep a 0 ≡ entryStep a b
@@ -174,23 +188,18 @@ module _ (a : List ℕ) (d : List ℕ) where
 pub ruleset opening = (open-refused, open-given, entry-refused, entry-given, step-given, lt-ltb, le-ltb, needs)
 
 -- ---- the recogniser
+abbrev formatIn : Format → List ℕ
+formatIn s = cond (s .dos33) 1 0 ∷ []
+
 module _ (x : List ℕ) (d : List ℕ) where
-  format-no : (p : Outcome Bool) (s : Format) → recognized x ≡ p → s ≡ formatOf p → (s .refusal ≡ 0 → ⊥) → Fields (formatNumbers x) d d (s .refusal)
-  unfolding formatNumbers
-  format-no (refused q) s e h z = refused-fields (formatNumbers x) q d (s .refusal) (rw e refl) (ap (λ (y : Format). y .refusal) h)
-  format-no (given c) s e h z = absurd (z (ap (λ (y : Format). y .refusal) h))
-
   pub format-refused : (s : Format) → s ≡ formatOf (recognized x) → (s .refusal ≡ 0 → ⊥) → Fields (formatNumbers x) d d (s .refusal)
-  format-refused s h z = format-no (recognized x) s refl h z
-
-  format-yes : (p : Outcome Bool) (s : Format) → recognized x ≡ p → s ≡ formatOf p → s .refusal ≡ 0 → formatNumbers x ≡ given (cond (s .dos33) 1 0 ∷ [])
   unfolding formatNumbers
-  format-yes (refused q) s e h z = absurd (omega (arith, code-pos q, ap (λ (y : Format). y .refusal) h))
-  format-yes (given c) s e h z = rw (formatNumbers, e) (sym (ap (λ (y : Format). given (cond (y .dos33) 1 0 ∷ [])) h))
+  format-refused s h z = answer-refused formatOf (λ t. t .refusal) formatIn _ (λ q. refl) (λ c. refl) (λ c. refl) (recognized x) s d h z
 
   pub format-given : (s : Format) → s ≡ formatOf (recognized x) → s .refusal ≡ 0 → (n : ℕ) → n ≡ cond (s .dos33) 1 0 → (o : List ℕ) (r : ℕ)
       → Fields (given (n ∷ [])) d o r → Fields (formatNumbers x) d o r
-  format-given s h z n e o r u = given-fields (formatNumbers x) (n ∷ []) d o r (format-yes (recognized x) s refl h z ∙ rw (← e) refl) u
+  unfolding formatNumbers
+  format-given s h z n e o r u = answer-given formatOf (λ t. t .refusal) formatIn _ (λ q. refl) (λ c. refl) (λ c. refl) (recognized x) s h z d o r (rw e at u)
 
 pub ruleset recognising = (format-refused, format-given, needs)
 

@@ -14,6 +14,7 @@ use Rattle.disk.specs.declared.VolumeTableOfContents.{VolumeTableOfContents}
 use Rattle.disk.specs.Disk.{perOf, byteOf}
 use Rattle.disk.specs.Vtoc.{vtoc, readable, tableOf}
 use Rattle.files.specs.Survey.{Survey, survey, blocks}
+use Rattle.holders.specs.Holders.{Holding, holding}
 use Rattle.archive.specs.Archive.{ifAny}
 use Rattle.archive.specs.Reader.{opened}
 use Rattle.reader.specs.declared.Entry.{Entry}
@@ -82,6 +83,13 @@ surveyFields s = s .volume ∷ s .entries ∷ s .free ∷ s .used ∷ s .percent
 
 unfoldable pub surveyNumbers : List ℕ → Outcome (List ℕ)
 surveyNumbers d = survey (perOf d) d >>= λ s. given (surveyFields s)
+
+-- the 5 numbers of the holders: 1 to 6
+abbrev pub holderFields : Holding → List ℕ
+holderFields h = h .unheld ∷ h .heldOnce ∷ h .shared ∷ h .heldFree ∷ cond (h .clean) 1 0 ∷ []
+
+unfoldable pub holderNumbers : List ℕ → Outcome (List ℕ)
+holderNumbers d = holding (perOf d) d >>= λ h. given (holderFields h)
 
 -- the 3 numbers of an archive that is opened: 13
 unfoldable pub openNumbers : List ℕ → Outcome (List ℕ)

@@ -23,7 +23,7 @@ ghost use Rattle.outcome.specs.Outcome.{given};
 ghost use Rattle.records.specs.Records.{entryWritten, pageWritten, fileWritten};
 ghost use Rattle.fields.specs.Search.{recognized};
 ghost use Rattle.reader.specs.Steps.{entryStep};
-ghost use Rattle.host.specs.Exports.{Exports, Fields, Told, yes, lettersOf, vtocNumbers, surveyNumbers, openNumbers, entryFields, entryNumbers, formatNumbers};
+ghost use Rattle.host.specs.Exports.{Exports, Fields, Told, yes, lettersOf, vtocNumbers, surveyNumbers, holderNumbers, openNumbers, entryFields, entryNumbers, formatNumbers};
 use disk::Place;
 use disk::Sector;
 use disk::Track;
@@ -411,6 +411,25 @@ pub extern "C" fn dos33_survey(disk: &[u8], fields: &mut [u64]) -> u8
         s.percent_used as u64,
         s.archive_blocks,
         s.links,
+    ];
+    put_fields(&values, fields)
+}
+
+// The numbers of the holders: sectors held by no one, by one, by more; held ones that the map calls free; 1 for a clean disk. 1 to 6, 12.
+#[no_mangle]
+pub extern "C" fn dos33_holders(disk: &[u8], fields: &mut [u64]) -> u8
+    ensures { λ r. ⌜ Fields (holderNumbers (now (disk .entry))) (now (fields .entry)) (now (fields .exit)) r ⌝ }
+{
+    let h = holders::holders(disk);
+    if h.refusal != 0 {
+        return h.refusal;
+    }
+    let values = [
+        h.unheld as u64,
+        h.held_once as u64,
+        h.shared as u64,
+        h.held_free as u64,
+        bit(h.clean),
     ];
     put_fields(&values, fields)
 }
