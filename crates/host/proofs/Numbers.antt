@@ -30,8 +30,7 @@ use Rattle.files.specs.declared.DiskSurvey.{DiskSurvey}
 use Rattle.files.specs.Contents.{File}
 use Rattle.files.specs.Survey.{survey, surveyed}
 use Rattle.holders.specs.declared.HolderCounts.{HolderCounts}
-use Rattle.holders.specs.Holders.{holding}
-use Rattle.holders.specs.Tally.{reported}
+use Rattle.holders.specs.Holders.{holding, reported}
 use Rattle.archive.specs.Reader.{opened}
 use Rattle.reader.specs.declared.Opened.{Opened}
 use Rattle.reader.specs.declared.Entry.{Entry}
