@@ -1,23 +1,26 @@
 -- How many of the counts are a number, and how many held sectors the map calls free. Assumes nothing.
 use mathlib.Core.Path.{_≡_, refl, sym, ap, _∙_}
-use mathlib.Core.Bool.{Bool, false, cond, _&&_}
+use mathlib.Core.Bool.{Bool, true, false, cond, _&&_}
 use mathlib.Core.List.{List}
 use Prim.Native.Nat.{ℕ, _+_, _*_, _-_, _/_, _%_, _^_, _<_, _≤_}
 use native.Mathlib.Nat.{div-eq-of-lt, pow-le-pow-right, mul-suc}
 use native.Mathlib.Numerals.{add-one}
 use native.Mathlib.Omega.{arith}
-use lib.ListN.{length, getD}
+use lib.ListN.{length, getD, take, drop}
+use lib.Seq.{getD-take, getD-drop}
 use lib.Dec.{eqb, ltb}
 use borrow.Author.Needs.{needs}
+use borrow.Author.Tests.{eqb-true}
 use Rattle.lists.specs.Select.{passing}
-use Rattle.lists.proofs.Passing.{passing-suc, passing-same, passing-none, passing-add}
+use Rattle.lists.proofs.Passing.{passing-suc, passing-same, passing-none, passing-add, passing-zero, all-passing}
+use Rattle.lists.proofs.Split.{clash}
 use Rattle.disk.specs.declared.Place.{Place}
 use Rattle.disk.specs.Disk.{place, start}
 use Rattle.disk.specs.Vtoc.{mapWord}
 use Rattle.disk.proofs.Numbers.{bytes-times}
 use Rattle.disk.proofs.Places.{at-place}
 use Rattle.holders.specs.Holders.{bit, free}
-use Rattle.holders.specs.Tally.{isHeld, isFree, isFreeIn}
+use Rattle.holders.specs.Tally.{isHeld, isFree, isFreeIn, Idle}
 
 -- ---- a run of tests: m of the first k of them pass
 module _ (test : ℕ → Bool) (total : ℕ) where
@@ -76,8 +79,32 @@ is-free n d p w low b e l q = q ∙ rw (e, l) refl
 
 pub ruleset maps = (bit-none, bit-is, is-free, needs)
 
+-- ---- a track of which no sector is held
+pub idle-short : (n : ℕ) (c : List ℕ) (from : ℕ) → Idle n c from false
+idle-short n c from = record { none = λ e. absurd (clash e) }
+
+pub idle-is : (n : ℕ) (c : List ℕ) (from : ℕ) (x : List ℕ) (k : ℕ) → k ≡ passing (isHeld x 0) n → x ≡ take n (drop from c) → Idle n c from (eqb k n)
+unfolding isHeld
+idle-is n c from x k e q =
+    record {
+      none = λ h s l.
+          let z : passing (isHeld x 0) n ≡ n = sym e ∙ eqb-true k n h in
+          let a : getD x s 0 ≡ 0 = eqb-true _ _ (all-passing (isHeld x 0) n z s l) in
+          sym (ap (λ (y : List ℕ). getD y s 0) q ∙ getD-take n (drop from c) s 0 l ∙ getD-drop from c s 0) ∙ a;
+    }
+
+pub ruleset idles = (idle-short, idle-is, needs)
+
 -- ---- those of a track
 module _ (n : ℕ) (d c : List ℕ) where
+  pub track-idle : (t a : ℕ) (b : Bool) → Idle n c (a / 256) b → b ≡ true → a ≡ start n (place t 0) → 0 ≡ passing (isFreeIn n d c t) n
+  unfolding isFreeIn
+  track-idle t a b i h o =
+      let e : a / 256 ≡ n * t = omega (arith, o) in
+      sym
+      (passing-zero (isFreeIn n d c t) n
+      (λ s l. let z : getD c (n * t + s) 0 ≡ 0 = ap (λ (y : ℕ). getD c (y + s) 0) (sym e) ∙ i .none h s l in rw z refl))
+
   -- m are met of the first s of track t, whose map is w, and whose sector 0 is number `from`
   pub record InTrack (t w low from s m : ℕ) : Type 0 where
     pub map : w ≡ mapWord n d t
@@ -148,4 +175,4 @@ module _ (n : ℕ) (d c : List ℕ) where
   pub tracks-fits : (t m r : ℕ) → Tracks t m → t < 35 → r ≤ 255 → m + r < 2 ^ 16
   tracks-fits t m r i h s = omega (arith, i .small, i .count)
 
-pub ruleset tracks = (track-none, track-more, track-done, track-few, track-fits, number-fits, tracks-none, tracks-more, tracks-done, tracks-fits, needs)
+pub ruleset tracks = (track-idle, track-none, track-more, track-done, track-few, track-fits, number-fits, tracks-none, tracks-more, tracks-done, tracks-fits, needs)

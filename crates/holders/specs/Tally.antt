@@ -1,8 +1,8 @@
 -- Holders counted in one pass over pages, lists and pairs: what its functions promise.
 use mathlib.Core.Path.{_≡_}
-use mathlib.Core.Bool.{Bool, cond, _&&_}
+use mathlib.Core.Bool.{Bool, true, cond, _&&_}
 use mathlib.Core.List.{List, [], _∷_, _++_, flatMap, foldl}
-use Prim.Native.Nat.{ℕ, zero, suc, _+_, _*_}
+use Prim.Native.Nat.{ℕ, zero, suc, _+_, _*_, _<_}
 use lib.ListN.{getD, set}
 use lib.Dec.{ltb, eqb}
 use Rattle.lists.specs.Select.{all}
@@ -107,3 +107,7 @@ isFree n d c k = ltb 0 (getD c k 0) && free n d (placeOf n k)
 -- .. by track and sector
 unfoldable pub isFreeIn : (n : ℕ) (d c : List ℕ) → (t s : ℕ) → Bool
 isFreeIn n d c t s = ltb 0 (getD c (n * t + s) 0) && free n d (place t s)
+
+-- r says only where it is so that no sector of the n from number `from` on has a count
+pub record Idle (n : ℕ) (c : List ℕ) (from : ℕ) (r : Bool) : Type 0 where
+  pub none : r ≡ true → (s : ℕ) → s < n → getD c (from + s) 0 ≡ 0

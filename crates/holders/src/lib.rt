@@ -8,7 +8,7 @@ ghost use Rattle.lists.specs.Select.{passing};
 ghost use Rattle.disk.specs.Disk.{perOf};
 ghost use Rattle.files.specs.Contents.{pairsOf};
 ghost use Rattle.holders.specs.Holders.{bit, free, holding, noHolders, reported};
-ghost use Rattle.holders.specs.Tally.{isHeld, isFree, isFreeIn, Bumped, PairHeld, Paired, ListHeld, Tallied, Extends, sectorsFrom, withLine, onPage, metFrom, allMet};
+ghost use Rattle.holders.specs.Tally.{isHeld, isFree, isFreeIn, Bumped, PairHeld, Paired, ListHeld, Tallied, Extends, sectorsFrom, withLine, onPage, metFrom, allMet, Idle};
 use catalog::entry_list;
 use catalog::entry_start;
 use catalog::first_page;
@@ -30,6 +30,7 @@ use files::last_list;
 use files::parse_track_sector_pair;
 use files::whole_link;
 use lists::byte_at;
+use lists::part;
 use outcome::BAD_LETTER;
 use outcome::CUT_LINK;
 use outcome::OFF_DISC;
@@ -258,18 +259,32 @@ fn held_and_free(c: u8, w: u16, k: u16) -> bool
     (0 < c) & has_bit(w, k)
 }
 
+// Whether no sector of the track that begins with number `from` is held.
+fn is_idle(counts: &[u8], from: usize, per: u8) -> bool
+    ensures { λ r. ⌜ Idle per (now (counts .entry)) from r ⌝ }
+{
+    let track = part(counts, from, per as usize);
+    if track.len() < per as usize {
+        return false;
+    }
+    count_held(track, per as usize, 0) == per as u16
+}
+
 // How many held sectors of a track the map calls free.
 fn free_in_track(disk: &[u8], per: u8, counts: &[u8], t: u8) -> u16
     ensures is { λ r. ⌜ r ≡ passing (isFreeIn per (now (disk .entry)) (now (counts .entry)) t) per ⌝ }
     ensures small { λ r. ⌜ r ≤ 255 ⌝ }
 {
-    let w = map_word(disk, per, t);
-    let low = low_bits(per);
     let first = Place {
         track: Track(t),
         sector: Sector(0),
     };
     let from = sector_start(per, first) / 256;
+    if is_idle(counts, from, per) {
+        return 0;
+    }
+    let w = map_word(disk, per, t);
+    let low = low_bits(per);
     let mut n: u16 = 0;
     for s in 0..per {
         n += one(held_and_free(byte_at(counts, from + s as usize), w, s as u16 + low));

@@ -79,6 +79,25 @@ module _ (test : ℕ → Bool) where
       let s : passing test (suc m) ≡ passing test m + 0 = passing-suc test m ∙ rw t refl in
       by-lt k m (λ l. zero-passing m (omega arith) k l) (λ l. let q : k ≡ m = omega arith in rw q t))
 
+  -- no more than there are, and where it is as many, each passes
+  pub passing-few : (m : ℕ) → passing test m ≤ m
+  passing-few zero = let a = passing-none test in omega arith
+  passing-few (suc m) =
+      let i = passing-few m in
+      let a = passing-suc test m in
+      let s : one (test m) ≤ 1 = by-test (test m) (λ e. rw e (omega arith)) (λ e. rw e (omega arith)) in
+      omega arith
+
+  pub all-passing : (m : ℕ) → passing test m ≡ m → (k : ℕ) → k < m → test k ≡ true
+  all-passing zero e k h = absurd (omega arith)
+  all-passing (suc m) e k h =
+      let f = passing-few m in
+      by-test (test m)
+      (λ t.
+      let s : passing test (suc m) ≡ passing test m + 1 = passing-suc test m ∙ rw t refl in
+      by-lt k m (λ l. all-passing m (omega arith) k l) (λ l. let q : k ≡ m = omega arith in rw q t))
+      (λ t. absurd (let s : passing test (suc m) ≡ passing test m + 0 = passing-suc test m ∙ rw t refl in omega arith))
+
 -- ---- in two runs
 pub passing-add : (test : ℕ → Bool) (m k : ℕ) → passing test (m + k) ≡ passing test m + passing (λ s. test (m + s)) k
 passing-add test m zero = let z = passing-none (λ s. test (m + s)) in rw (add-zero m) (omega arith)
