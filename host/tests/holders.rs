@@ -494,6 +494,9 @@ fn refused(d: &[u8], due: u8) {
     }
 }
 
+// Bytes from one on of a sector.
+type Poke<'a> = (Place, usize, &'a [u8]);
+
 #[test]
 fn refusals_as_the_survey_has_them() {
     both(|t| {
@@ -505,7 +508,7 @@ fn refusals_as_the_survey_has_them() {
         let (page, second) = (t.page(), t.second());
         let (last, other) = (t.list(18), (18, t.per as u8 - 2));
         let back = [last.0, last.1];
-        let pokes: &[(&[(Place, usize, &[u8])], u8)] = &[
+        let pokes: &[(&[Poke], u8)] = &[
             (&[(VTOC, 52, &[36])], 2),
             (&[(VTOC, 53, &[15])], 2),
             // A page, a list's link, an entry's list, a pair: off the disk.
