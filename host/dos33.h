@@ -112,6 +112,7 @@ enum {
     DOS33_WORD_MOST = 15,           /* refusal_word */
     DOS33_VTOC_FIELDS = 13,
     DOS33_SURVEY_FIELDS = 7,
+    DOS33_HOLDERS_FIELDS = 5,
     DOS33_OPEN_FIELDS = 3,
     DOS33_STEP_FIELDS = 8,
     DOS33_FORMAT_FIELDS = 1
@@ -177,6 +178,14 @@ uint8_t dos33_fetch(const uint8_t *disk, size_t disk_length,
    followed. 1 to 6, 12. */
 uint8_t dos33_survey(const uint8_t *disk, size_t disk_length,
                      uint64_t *fields, size_t fields_length);
+
+/* 5 numbers: sectors held by no one, by exactly one holder, by more than one (560 or 455 together);
+   held sectors that the map calls free, a shared one once; 1 where the disk is clean, else 0. A
+   holder is the VTOC, a catalog page, a track/sector list or a data pair, each place counted: a pair
+   that a list names twice is two, and two entries with one list share it and all its data. A disk is
+   clean where the third and the fourth number are 0. 1 to 6, 12. */
+uint8_t dos33_holders(const uint8_t *disk, size_t disk_length,
+                      uint64_t *fields, size_t fields_length);
 
 /* The disk's archive. It does not tell how many sectors a track has: disks of 16 and of 13 with the
    same contents have the same archive. 1 to 6, 7, 12. */

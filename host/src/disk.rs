@@ -1,8 +1,8 @@
 use crate::types::locations;
 use crate::{
     denibblize, denibblize_13, lend, nibblize, raw, Archive, ArchiveEntry, CatalogEntry, File,
-    FileType, Location, Name, Refusal, Sector, Survey, Track, TrackSectorPair, Vtoc, LIST_PAIRS,
-    SECTORS_PER_TRACK, TRACKS,
+    FileType, Holders, Location, Name, Refusal, Sector, Survey, Track, TrackSectorPair, Vtoc,
+    LIST_PAIRS, SECTORS_PER_TRACK, TRACKS,
 };
 
 // The most that each call can need. A disk of 13 sectors a track has less of everything.
@@ -328,6 +328,69 @@ impl<'a> Disk<'a> {
             archive_blocks: f[5],
             links: f[6],
         })
+    }
+
+    /// How often the sectors are held, by the VTOC, pages, lists and data pairs, and how many held ones the
+    /// map calls free.
+    ///
+    /// ```
+    /// use dos33::{catalog_page, Disk, EntryRecord, FileType, Location, Sector, Track};
+    ///
+    /// // Two files. Each has its list in sector 0 of a track, and its bytes in sector 1. The map calls no
+    /// // sector free.
+    /// let mut bytes = vec![0; dos33::DISK_SIZE];
+    /// let at = |track: usize, sector: usize| 4096 * track + 256 * sector;
+    /// bytes[at(17, 0) + 1..][..2].copy_from_slice(&[17, 15]);
+    /// bytes[at(17, 0) + 52] = 35;
+    /// bytes[at(17, 0) + 53] = 16;
+    /// let record = |track: u8, name| EntryRecord {
+    ///     list: Location::new(Track(track), Sector(0)),
+    ///     kind: FileType::Binary,
+    ///     locked: false,
+    ///     name,
+    ///     sectors: 2,
+    /// };
+    /// let page = catalog_page(&[], &[record(18, b"LINE"), record(19, b"WAY")])?;
+    /// bytes[at(17, 15)..][..256].copy_from_slice(&page);
+    /// bytes[at(18, 0) + 12..][..2].copy_from_slice(&[18, 1]);
+    /// bytes[at(19, 0) + 12..][..2].copy_from_slice(&[19, 1]);
+    ///
+    /// // The VTOC, a page, two lists, two data sectors, and each is held once: the disk is clean.
+    /// let holders = Disk::flat(&bytes).holders()?;
+    /// assert_eq!((holders.unheld, holders.held_once, holders.shared), (554, 6, 0));
+    /// assert!(holders.clean && holders.held_free == 0);
+    ///
+    /// // The second list now names the first file's sector. 18/1 is shared, and 19/1 is held by no one.
+    /// bytes[at(19, 0) + 12] = 18;
+    /// let holders = Disk::flat(&bytes).holders()?;
+    /// assert_eq!((holders.unheld, holders.held_once, holders.shared), (555, 4, 1));
+    /// assert!(!holders.clean);
+    /// # Ok::<(), dos33::Refusal>(())
+    /// ```
+    ///
+    /// # Errors
+    /// 1 to 6.
+    pub fn holders(&self) -> Result<Holders, Refusal> {
+        let d = self.bytes();
+        // SAFETY: as in `catalog`.
+        let f: [u64; 5] =
+            lend::numbers(|p, n| unsafe { raw::dos33_holders(d.as_ptr(), d.len(), p, n) })?;
+        Ok(Holders {
+            unheld: f[0] as u16,
+            held_once: f[1] as u16,
+            shared: f[2] as u16,
+            held_free: f[3] as u16,
+            clean: f[4] != 0,
+        })
+    }
+
+    /// Whether no sector is held by more than one, and the map calls no held one free: [`Holders::clean`].
+    /// What the map says of sectors that no one holds does not matter.
+    ///
+    /// # Errors
+    /// 1 to 6.
+    pub fn is_clean(&self) -> Result<bool, Refusal> {
+        Ok(self.holders()?.clean)
     }
 
     /// The disk's archive; [`Archive::open`](crate::Archive::open) steps through it.

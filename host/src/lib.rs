@@ -57,6 +57,7 @@
 //! | disc, roll, thread, load | [`Disk`], [`Disk::catalog`], [`Disk::lists`], [`Disk::file`], [`Disk::files`] |
 //! | list, lent run of pairs | [`Disk::pairs`], [`Disk::pair_run`] |
 //! | window, survey | [`Disk::sector`], [`Disk::survey`] |
+//! | crossed threads | [`Disk::holders`], [`Disk::is_clean`] |
 //! | return | [`Disk::archive`], [`Disk::check`], [`Archive`] |
 //! | unroll, nibble writer | [`denibblize`], [`denibblize_13`], [`nibblize`] |
 //! | slip, number | [`Refusal`], [`Refusal::number`] |
@@ -70,7 +71,7 @@
 //! grows with the square of the stream's length.
 //!
 //! Later versions may add refusals, and fields to what is answered: [`Refusal`], [`CatalogEntry`],
-//! [`File`], [`Vtoc`] and [`Survey`] are `non_exhaustive`.
+//! [`File`], [`Vtoc`], [`Survey`] and [`Holders`] are `non_exhaustive`.
 #![warn(missing_docs)]
 
 mod archive;
@@ -91,8 +92,8 @@ pub use nibbles::{
 pub use records::{binary_file, catalog_page, EntryRecord};
 pub use refusal::Refusal;
 pub use types::{
-    CatalogEntry, File, FileType, Location, Name, RawName, Sector, Survey, Track, TrackSectorPair,
-    Vtoc,
+    CatalogEntry, File, FileType, Holders, Location, Name, RawName, Sector, Survey, Track,
+    TrackSectorPair, Vtoc,
 };
 
 /// The tracks of a disk.

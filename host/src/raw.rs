@@ -117,6 +117,16 @@ extern "C" {
         fields_length: usize,
     ) -> u8;
 
+    /// 5 numbers: sectors held by no one, by exactly one holder, by more than one (560 or 455 together);
+    /// held sectors that the map calls free; 1 where the disk is clean, else 0.
+    /// [`Holders`](crate::Holders) says what a holder is. Refusals 1 to 6, 12.
+    pub fn dos33_holders(
+        disk: *const u8,
+        disk_length: usize,
+        fields: *mut u64,
+        fields_length: usize,
+    ) -> u8;
+
     /// The disk's archive. Refusals 1 to 6, 7, 12.
     pub fn dos33_archive_write(
         disk: *const u8,

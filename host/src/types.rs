@@ -260,3 +260,23 @@ pub struct Survey {
     /// Sectors followed as links: catalog pages and all lists.
     pub links: u64,
 }
+
+/// How often the sectors of a disk are held, and what its map says of those that are.
+///
+/// A holder is the VTOC, a page of the catalog, a track/sector list or a data pair, each place counted: a
+/// pair that a list names twice is two holders, and two entries with one list share it and all its data.
+/// The first three numbers add up to the sectors of the disk, 560 or 455.
+#[derive(Clone, Copy, Debug, PartialEq, Eq, Hash)]
+#[non_exhaustive]
+pub struct Holders {
+    /// Sectors that no one holds. The map may call them free or used.
+    pub unheld: u16,
+    /// Sectors that exactly one holder has.
+    pub held_once: u16,
+    /// Sectors that more than one has.
+    pub shared: u16,
+    /// Held sectors that the map calls free, a shared one once.
+    pub held_free: u16,
+    /// Whether the disk is clean: no sector is shared, and the map calls no held one free.
+    pub clean: bool,
+}

@@ -104,6 +104,8 @@ fn very_many_entries() {
     // It is a good disk, and it is served. The first sector of every file is 1/4, whose bytes 2 and 3 are 5 and 0.
     let survey = flat.survey().unwrap();
     assert_eq!((survey.entries, survey.links), (3570, 510 + 3570 * 510));
+    let holders = flat.holders().unwrap();
+    assert_eq!((holders.held_once, holders.shared), (1, 510));
     let entries = flat.catalog().unwrap();
     assert_eq!((entries.len(), entries[3569].sectors), (3570, 0x101));
     assert_eq!(flat.file(3569), Ok(vec![0; 5]));

@@ -155,6 +155,11 @@ fn calls_on_a_flat_disk() {
         let survey = hands_numbers(7, &|f, m| dos33_survey(p, n, f, m));
         assert_eq!(survey, [254, 3, 15, 545, 97, 8, 6]);
         refuses_numbers(4, &|f, m| dos33_survey(rp, n, f, m));
+        let holders = hands_numbers(5, &|f, m| dos33_holders(p, n, f, m));
+        assert_eq!(holders, [548, 12, 0, 0, 1]);
+        refuses_numbers(1, &|f, m| dos33_holders(p, n - 1, f, m));
+        refuses_numbers(4, &|f, m| dos33_holders(rp, n, f, m));
+        refuses_numbers(6, &|f, m| dos33_holders(lp, n, f, m));
 
         let (a, k) = (archive.as_ptr(), archive.len());
         assert_eq!(
@@ -300,6 +305,12 @@ fn calls_on_a_flat_disk_of_13() {
             [254, 3, 13, 442, 97, 8, 6]
         );
         refuses_numbers(4, &|f, m| dos33_survey(rp, n, f, m));
+        assert_eq!(
+            hands_numbers(5, &|f, m| dos33_holders(p, n, f, m)),
+            [443, 12, 0, 0, 1]
+        );
+        refuses_numbers(2, &|f, m| dos33_holders(tp, n, f, m));
+        refuses_numbers(4, &|f, m| dos33_holders(rp, n, f, m));
         refuses(1, &|o, m, l| dos33_nibblize(p, n, o, m, l));
     }
 }

@@ -61,6 +61,8 @@ fn same(a: &Disk<'_>, b: &Disk<'_>) {
     assert_eq!(a.lists(0), b.lists(0));
     assert_eq!(a.fetch("LINE 7"), b.fetch("LINE 7"));
     assert_eq!(a.survey(), b.survey());
+    let held = |d: &Disk<'_>| d.holders().map(|h| (h.unheld, h.held_once, h.shared));
+    assert_eq!(held(a), held(b));
     let archive = a.archive().unwrap();
     assert_eq!(b.archive().as_ref(), Ok(&archive));
     assert_eq!(b.check(&archive), Ok(()));
@@ -77,6 +79,7 @@ fn refused(d: &[u8], due: Refusal) {
     assert_eq!(disk.lists(0), Err(due));
     assert_eq!(disk.fetch("LINE 7"), Err(due));
     assert_eq!(disk.survey(), Err(due));
+    assert_eq!(disk.holders(), Err(due));
     assert_eq!(disk.archive(), Err(due));
     assert_eq!(disk.check(&[]), Err(due));
 }

@@ -21,6 +21,8 @@ fn deep(d: &[u8], due: Refusal) {
     assert_eq!(disk.fetch("NOBODY"), Err(due));
     assert_eq!(disk.lists(0), Err(due));
     assert_eq!(disk.survey(), Err(due));
+    assert_eq!(disk.holders(), Err(due));
+    assert_eq!(disk.is_clean(), Err(due));
     assert_eq!(disk.archive(), Err(due));
     assert_eq!(disk.check(&[]), Err(due));
 }
@@ -103,6 +105,7 @@ fn no_table_2() {
     }
     let d = poked(&[(v + 52, 40), (v + 53, 13)]);
     assert!(Disk::flat(&d).survey().is_ok());
+    assert!(Disk::flat(&d).holders().is_ok());
 }
 
 #[test]
@@ -165,6 +168,7 @@ fn overlong_7() {
     Disk::flat(&d).check(&archive).unwrap();
     let d = common::large(16);
     assert_eq!(Disk::flat(&d).survey().unwrap().archive_blocks, 4161);
+    assert_eq!(Disk::flat(&d).holders().unwrap().shared, 4);
     assert_eq!(Disk::flat(&d).archive(), Err(Refusal::Overlong));
     assert_eq!(Disk::flat(&d).files(), Err(Refusal::Overlong));
     assert_eq!(Disk::flat(&d).check(&archive), Err(Refusal::Overlong));

@@ -105,6 +105,18 @@ int main(void) {
     EXPECT(dos33_fetch(disk, sizeof disk, name, 3, out, sizeof out, &n) == DOS33_NOT_ON_ROLL);
     EXPECT(dos33_survey(disk, sizeof disk, f, DOS33_SURVEY_FIELDS) == 0);
     EXPECT(f[0] == 254 && f[1] == 1 && f[5] == 4 && f[6] == 2);
+    /* The VTOC, a page, a list and two data sectors, each held once. */
+    f[3] = 66;
+    EXPECT(dos33_holders(disk, sizeof disk, f, DOS33_HOLDERS_FIELDS - 1) == DOS33_TRAY_SHORT && f[3] == 66);
+    EXPECT(dos33_holders(disk, sizeof disk, f, DOS33_HOLDERS_FIELDS) == 0);
+    EXPECT(f[0] == 555 && f[1] == 5 && f[2] == 0 && f[3] == 0 && f[4] == 1);
+    /* The list names one of them twice, and the map calls it free. */
+    at(18, 2)[15] = 3;
+    at(17, 0)[56 + 4 * 18 + 1] = 0x08;
+    EXPECT(dos33_holders(disk, sizeof disk, f, DOS33_HOLDERS_FIELDS) == 0);
+    EXPECT(f[0] == 556 && f[1] == 3 && f[2] == 1 && f[3] == 1 && f[4] == 0);
+    at(18, 2)[15] = 4;
+    at(17, 0)[56 + 4 * 18 + 1] = 0;
     EXPECT(dos33_window(disk, sizeof disk, image, 0, 1, 18, 2, out, sizeof out, &n) == 0);
     EXPECT(n == 256 && memcmp(out, at(18, 2), 256) == 0);
 

@@ -348,6 +348,7 @@ fn little_stack() {
             assert_eq!(disk.pairs(list.track, list.sector).unwrap().len(), 2);
             assert_eq!(disk.sector(Track(18), Sector(1)).unwrap(), sector);
             assert_eq!(disk.survey().unwrap().free, disk.vtoc().unwrap().free);
+            assert_eq!(disk.holders().unwrap().held_once, 12);
         }
     };
     std::thread::scope(|s| {
@@ -369,6 +370,7 @@ fn sizes() {
         assert_eq!(disk.vtoc(), Err(Refusal::OffSize));
         assert_eq!(disk.catalog(), Err(Refusal::OffSize));
         assert_eq!(disk.survey(), Err(Refusal::OffSize));
+        assert_eq!(disk.holders(), Err(Refusal::OffSize));
         assert_eq!(disk.file(0), Err(Refusal::OffSize));
         assert_eq!(disk.files(), Err(Refusal::OffSize));
         assert_eq!(disk.fetch("LINE 7"), Err(Refusal::OffSize));
@@ -442,12 +444,14 @@ fn sectors_of_the_vtoc() {
                     "{per}: {tracks}, {sectors}"
                 );
                 assert_eq!(disk.survey().unwrap().free, free);
+                assert_eq!(disk.holders().unwrap().unheld, 35 * per as u16 - 12);
                 assert_eq!(disk.file(0).unwrap(), binary());
             } else {
                 let due = Refusal::NoTable;
                 assert_eq!(vtoc, Err(due), "{per}: {tracks}, {sectors}");
                 assert_eq!(disk.catalog(), Err(due));
                 assert_eq!(disk.survey(), Err(due));
+                assert_eq!(disk.holders(), Err(due));
                 assert_eq!(disk.file(0), Err(due));
                 assert_eq!(disk.files(), Err(due));
                 assert_eq!(disk.fetch("NOTES"), Err(due));
@@ -580,6 +584,16 @@ fn survey() {
     });
 }
 
+#[test]
+fn holders() {
+    both(|d, _| {
+        let h = d.holders().unwrap();
+        // The VTOC, two pages, four lists, five data sectors.
+        assert_eq!((h.unheld, h.held_once, h.shared), (443, 12, 0));
+        assert_eq!((h.held_free, h.clean), (0, true));
+    });
+}
+
 // Every sector, and those that a track has not: 13 and up are off the disk, in the window, the pairs and the run.
 #[test]
 fn sector_13_is_3() {
@@ -659,6 +673,7 @@ fn what_is_followed_to_sector_13() {
             d[i] = byte;
             let disk = Disk::flat(&d);
             assert_eq!(disk.survey().err(), due, "{per}: {i}");
+            assert_eq!(disk.holders().err(), due, "{per}: {i}");
             assert_eq!(disk.file(0).err(), due, "{per}: {i}");
             assert_eq!(disk.fetch("LINE 8").err(), due.or(Some(Refusal::NotOnRoll)));
             assert_eq!(disk.archive().err(), due, "{per}: {i}");
@@ -693,6 +708,7 @@ fn refusals_of_the_contents() {
         let d = poked(pokes);
         let disk = Disk::flat(&d);
         assert_eq!(disk.survey(), Err(due));
+        assert_eq!(disk.holders(), Err(due));
         assert_eq!(disk.file(9), Err(due));
         assert_eq!(disk.files(), Err(due));
         assert_eq!(disk.lists(0), Err(due));

@@ -31,6 +31,7 @@ mod raw {
             length: *mut u64,
         ) -> u8;
         pub fn dos33_survey(d: *const u8, n: usize, fields: *mut u64, count: usize) -> u8;
+        pub fn dos33_holders(d: *const u8, n: usize, fields: *mut u64, count: usize) -> u8;
         pub fn dos33_archive_write(
             d: *const u8,
             n: usize,
@@ -76,11 +77,15 @@ mod raw {
     }
 }
 
-// How many data sectors each file of a full disk has: 75 files, 25 and 8.
-const FILES: [usize; 3] = [6, 20, 65];
+// How many files a disk has, and how many data sectors each of them.
+type Kind = (u64, usize);
 
-// A full disk of Binary files of so many sectors, one list each.
-fn full_disk(random: &mut Random, size: usize) -> (Vec<u8>, u64) {
+// Three full disks, and an almost empty one.
+const FULL: [Kind; 3] = [(75, 6), (25, 20), (8, 65)];
+const SMALL: Kind = (1, 6);
+
+// A disk of Binary files, one list each.
+fn disk_of(random: &mut Random, (files, size): Kind) -> Vec<u8> {
     let mut disk = vec![0u8; SIZE];
     let start = |sector: usize| 256 * sector;
     let vtoc = start(17 * 16);
@@ -91,8 +96,8 @@ fn full_disk(random: &mut Random, size: usize) -> (Vec<u8>, u64) {
     disk[vtoc + 53] = 16;
     // A pair with track 0 is none, and an entry with list track 0 is not in use.
     let free: Vec<usize> = (16..560).filter(|s| s / 16 != 17).collect();
-    let mut count = 0;
-    for sectors in free.chunks_exact(size + 1) {
+    let lots = free.chunks_exact(size + 1).take(files as usize);
+    for (count, sectors) in lots.enumerate() {
         let page = start(17 * 16 + 15 - count / 7);
         if count % 7 == 0 && count > 0 {
             disk[page + 256 + 1] = 17;
@@ -115,9 +120,8 @@ fn full_disk(random: &mut Random, size: usize) -> (Vec<u8>, u64) {
         disk[entry + 3] = 0xC1 + (count % 26) as u8;
         disk[entry + 4] = 0xC1 + (count / 26) as u8;
         disk[entry + 33] = (size + 1) as u8;
-        count += 1;
     }
-    (disk, count as u64)
+    disk
 }
 
 // What both work on, and the space that ours fills.
@@ -139,13 +143,12 @@ struct Work<'c> {
 }
 
 impl<'c> Work<'c> {
-    fn new(config: &'c Config, size: usize) -> Work<'c> {
+    fn new(config: &'c Config, kind: Kind) -> Work<'c> {
         let random = &mut Random::new(1);
-        let (disk, files) = full_disk(random, size);
         let mut work = Work {
             config,
-            disk,
-            files,
+            disk: disk_of(random, kind),
+            files: kind.0,
             stream: Vec::new(),
             ended: Vec::new(),
             disk_13: Vec::new(),
@@ -173,6 +176,16 @@ impl<'c> Work<'c> {
             0
         );
         assert_eq!(self.fields[1], self.files);
+    }
+
+    fn holders(&mut self) {
+        let (d, n) = (self.disk.as_ptr(), self.disk.len());
+        assert_eq!(
+            unsafe { raw::dos33_holders(d, n, self.fields.as_mut_ptr(), 5) },
+            0
+        );
+        // The disk is clean.
+        assert_eq!(self.fields[4], 1);
     }
 
     fn catalog(&mut self) {
@@ -282,8 +295,9 @@ impl<'c> Work<'c> {
 
 type Thing = (&'static str, fn(&mut Work));
 
-const THINGS: [Thing; 15] = [
+const THINGS: [Thing; 16] = [
     ("survey", |w| w.survey()),
+    ("holders", |w| w.holders()),
     ("catalog", |w| w.catalog()),
     ("file-0", |w| w.file(0)),
     ("catalog-and-files", |w| w.all_files()),
@@ -300,7 +314,7 @@ const THINGS: [Thing; 15] = [
     ("build_nibble_sector", |w| w.rust_sector()),
 ];
 
-// One thing so many times, on the full disk of 75, 25 or 8 files. Without words it prints what there is.
+// One thing so many times, on the full disk of 75, 25 or 8 files or on that of 1. Without words it prints what there is.
 pub fn count(words: &[String], config: &Config) -> Result<(), String> {
     let [what, times, files] = words else {
         THINGS.iter().for_each(|(name, _)| println!("{name}"));
@@ -310,8 +324,8 @@ pub fn count(words: &[String], config: &Config) -> Result<(), String> {
     let (_, thing) = thing.ok_or(format!("no such thing: {what}"))?;
     let number = |text: &String| text.parse::<u64>().map_err(|e| format!("{text}: {e}"));
     let (times, files) = (number(times)?, number(files)?);
-    let size = FILES.iter().find(|size| 528 / (*size + 1) as u64 == files);
-    let mut work = Work::new(config, *size.ok_or(format!("no disk of {files} files"))?);
+    let kind = FULL.iter().chain([&SMALL]).find(|kind| kind.0 == files);
+    let mut work = Work::new(config, *kind.ok_or(format!("no disk of {files} files"))?);
     for _ in 0..times {
         thing(&mut work);
     }
@@ -334,10 +348,10 @@ fn least<W>(work: &mut W, runs: usize, ours: fn(&mut W), theirs: fn(&mut W)) -> 
 }
 
 fn row(what: &str, ours: f64, other: &str, theirs: f64) {
-    let ratio = if other == "memcpy" {
-        format!("ours / {other} {:6.2}", ours / theirs)
-    } else {
+    let ratio = if other == "image-rider" {
         format!("{other} / ours {:6.2}", theirs / ours)
+    } else {
+        format!("ours / {other} {:6.2}", ours / theirs)
     };
     println!("{what:36} {ours:12.0} ns   {other:12} {theirs:12.0} ns   {ratio}");
 }
@@ -374,6 +388,17 @@ fn reading(work: &mut Work) {
         |w| w.survey(),
         |w| w.rust_load(),
     );
+}
+
+// The holders of all sectors, which image-rider does not tell, beside our own survey: both follow every list. Twenty at a time.
+fn holders(work: &mut Work) {
+    let (holders, survey) = least(
+        work,
+        20,
+        |w| (0..20).for_each(|_| w.holders()),
+        |w| (0..20).for_each(|_| w.survey()),
+    );
+    row("holders", holders / 20.0, "survey", survey / 20.0);
 }
 
 // Archives beside a copy of as many bytes.
@@ -426,16 +451,19 @@ fn nibbles(work: &mut Work) {
 }
 
 pub fn run(config: &Config) {
-    for size in FILES {
-        let work = &mut Work::new(config, size);
+    for kind in FULL {
+        let work = &mut Work::new(config, kind);
         work.survey();
         println!(
-            "a full disk: {} files of {size} sectors, {} archive blocks",
-            work.files, work.fields[5]
+            "a full disk: {} files of {} sectors, {} archive blocks",
+            kind.0, kind.1, work.fields[5]
         );
         reading(work);
+        holders(work);
         archives(work);
     }
-    println!("nibbles, on the disk of {} sectors a file", FILES[0]);
-    nibbles(&mut Work::new(config, FILES[0]));
+    println!("an almost empty disk: one file of {} sectors", SMALL.1);
+    holders(&mut Work::new(config, SMALL));
+    println!("nibbles, on the disk of {} sectors a file", FULL[0].1);
+    nibbles(&mut Work::new(config, FULL[0]));
 }

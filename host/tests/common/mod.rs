@@ -86,6 +86,15 @@ pub fn disk_of(per: usize) -> Vec<u8> {
     d
 }
 
+/// Marks a sector in the map as free, or as used. The highest sector of a track has the highest bit.
+pub fn mark(d: &mut [u8], track: usize, sector: usize, free: bool) {
+    let per = d.len() / (256 * 35);
+    let from_top = per - 1 - sector;
+    let byte = &mut d[at_of(per, 17, 0) + 56 + 4 * track + from_top / 8];
+    let bit = 0x80 >> (from_top % 8);
+    *byte = if free { *byte | bit } else { *byte & !bit };
+}
+
 /// The data of the first file.
 pub fn binary() -> Vec<u8> {
     (0..600u32).map(|k| (k * k / 7) as u8).collect()
