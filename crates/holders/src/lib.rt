@@ -221,7 +221,7 @@ fn count_held(counts: &[u8], total: usize, v: u8) -> u16
     n
 }
 
-// Bit k of a number is one.
+// Bit k of a number is one; none is from bit 16 on.
 fn has_bit(w: u16, k: u16) -> bool
     ensures { λ r. ⌜ r ≡ eqb (bit k w) 1 ⌝ }
 {
@@ -292,9 +292,8 @@ fn free_in_track(disk: &[u8], per: u8, counts: &[u8], t: u8) -> u16
     n
 }
 
-// How many of the disk.
+// How many held sectors of the disk it calls free.
 fn count_free(disk: &[u8], per: u8, counts: &[u8]) -> u16
-    requires { ⌜ 0 < per ⌝ }
     ensures { λ r. ⌜ r ≡ passing (isFree per (now (disk .entry)) (now (counts .entry))) (35 * per) ⌝ }
 {
     let mut n: u16 = 0;
