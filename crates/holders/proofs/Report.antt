@@ -24,7 +24,7 @@ use Rattle.disk.specs.Chain.{walk}
 use Rattle.catalog.specs.Catalog.{live, entryFrom, entriesOf, soundPage, nextPage, firstPage, pages}
 use Rattle.holders.specs.declared.HolderCounts.{HolderCounts}
 use Rattle.holders.specs.Holders.{sectorsOf, holders, held, unheld, heldOnce, shared, free, heldFree, clean, numbersOf, holding, noHolders, reported}
-use Rattle.holders.specs.Tally.{oneMore, bump, bumps, Tallied, sectorsFrom, lineSectors, withLine, withLines, withPage, walkHeld, metFrom, allMet, isHeld, isFree}
+use Rattle.holders.specs.Tally.{oneMore, bump, bumps, Tallied, lineSectors, withLine, withLines, withPage, walkHeld, metFrom, allMet, isHeld, isFree}
 use Rattle.holders.proofs.Counting.{held-append, held-none, held-here, held-else}
 use Rattle.holders.proofs.Tallies.{length-bump, bumps-more, bumps-none}
 
@@ -150,7 +150,7 @@ module _ (n : ℕ) (d : List ℕ) where
   dead-rest x xs e = rw e refl
 
   live-line : (x : ℕ) (hs : List Place) → live (entryFrom d x) ≡ true → lineOn (given hs) x ≡ (sectorsOf n d (entryFrom d x) >>= λ t. given (hs ++ t))
-  unfolding withLine lineSectors sectorsFrom sectorsOf
+  unfolding withLine lineSectors sectorsOf
   live-line x hs e = rw e refl
 
   dead-line : (x : ℕ) (hs : List Place) → live (entryFrom d x) ≡ false → lineOn (given hs) x ≡ given hs

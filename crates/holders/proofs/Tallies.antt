@@ -25,8 +25,8 @@ use Rattle.disk.proofs.Steps.{made, rest, rest-start, rest-full, rest-off, rest
 use Rattle.catalog.specs.Catalog.{validFile, live, entryFrom, entriesOf, plainNames, soundPage, lastPage, nextPage, firstPage}
 use Rattle.files.specs.Contents.{pairAt, pairsOf, wholeLink, soundList, nextList, listWalk}
 use Rattle.files.proofs.Runs.{behind, stop, next, none-behind}
-use Rattle.holders.specs.Holders.{withPairs}
-use Rattle.holders.specs.Tally.{bump, bumps, Bumped, PairHeld, Paired, ListHeld, Tallied, Extends, sectorsFrom, lineSectors, withLine, withLines, withPage, onPage, walkHeld, metFrom, allMet}
+use Rattle.holders.specs.Holders.{withPairs, sectorsFrom}
+use Rattle.holders.specs.Tally.{bump, bumps, Bumped, PairHeld, Paired, ListHeld, Tallied, Extends, lineSectors, withLine, withLines, withPage, onPage, walkHeld, metFrom, allMet}
 
 -- ---- one place
 module _ (n : ℕ) (c : List ℕ) (p : Place) (s : ℕ) (e : s ≡ start n p) where

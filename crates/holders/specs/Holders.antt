@@ -12,7 +12,7 @@ use Rattle.disk.specs.declared.Place.{Place}
 use Rattle.disk.specs.Disk.{onDisk, numberOf, placeOf, sectors}
 use Rattle.disk.specs.Vtoc.{vtoc, mapWord}
 use Rattle.catalog.specs.Catalog.{Entry, entriesOf, pages}
-use Rattle.files.specs.Contents.{pairsOf, lists}
+use Rattle.files.specs.Contents.{pairsOf, listWalk}
 use Rattle.holders.specs.declared.HolderCounts.{HolderCounts}
 
 -- ---- the holders of a disk d of n sectors a track
@@ -21,9 +21,13 @@ module _ (n : ℕ) (d : List ℕ) where
   abbrev pub withPairs : Place → List Place
   withPairs l = l ∷ pairsOf n d l
 
-  -- the sectors of an entry, list by list; its refusals are those of its file
+  -- the sectors of the lists from p on, list by list: 5, 3, 4 at each link, then 3 for the pairs
+  unfoldable pub sectorsFrom : Place → Outcome (List Place)
+  sectorsFrom p = listWalk n d p >>= λ ls. require (all (onDisk n) (flatMap (pairsOf n d) ls)) OffDisc >> given (flatMap withPairs ls)
+
+  -- those of an entry; its refusals are those of its file
   unfoldable pub sectorsOf : Entry → Outcome (List Place)
-  sectorsOf e = lists n d e >>= λ ls. require (all (onDisk n) (flatMap (pairsOf n d) ls)) OffDisc >> given (flatMap withPairs ls)
+  sectorsOf e = sectorsFrom (e .list)
 
   -- all holders: the VTOC, each page, and entry by entry its sectors; 1 to 6 as the contents have them
   unfoldable pub holders : Outcome (List Place)

@@ -1,20 +1,19 @@
 -- Holders counted in one pass over pages, lists and pairs: what its functions promise.
 use mathlib.Core.Path.{_≡_}
 use mathlib.Core.Bool.{Bool, true, cond, _&&_}
-use mathlib.Core.List.{List, [], _∷_, _++_, flatMap, foldl}
+use mathlib.Core.List.{List, [], _∷_, _++_, foldl}
 use Prim.Native.Nat.{ℕ, zero, suc, _+_, _*_, _<_}
 use lib.ListN.{getD, set}
 use lib.Dec.{ltb, eqb}
 use Rattle.lists.specs.Select.{all}
-use Rattle.outcome.specs.declared.Refusal.the-variants.{OffDisc}
-use Rattle.outcome.specs.Outcome.{Outcome, given, _>>=_, _>>_, require, number}
+use Rattle.outcome.specs.Outcome.{Outcome, given, _>>=_, _>>_, number}
 use Rattle.disk.specs.declared.Place.{Place}
 use Rattle.disk.specs.Disk.{place, start, onDisk, numberOf, placeOf, sectors}
 use Rattle.disk.specs.Vtoc.{vtoc, readable}
 use Rattle.disk.specs.Chain.{walk}
 use Rattle.catalog.specs.Catalog.{live, entryFrom, soundPage, nextPage, firstPage}
-use Rattle.files.specs.Contents.{pairsOf, listWalk}
-use Rattle.holders.specs.Holders.{withPairs, free}
+use Rattle.files.specs.Contents.{pairsOf}
+use Rattle.holders.specs.Holders.{sectorsFrom, free}
 
 -- ---- a run of counts, one for each sector
 -- a count and one more: 2 stands for all above 1
@@ -60,13 +59,9 @@ pub record ListHeld (n : ℕ) (d : List ℕ) (p : Place) (before after : List �
 
 -- ---- the holders in the order of the pass: each page and right behind it the sectors of its entries
 module _ (n : ℕ) (d : List ℕ) where
-  -- the sectors of the lists from p on
-  unfoldable pub sectorsFrom : Place → Outcome (List Place)
-  sectorsFrom p = listWalk n d p >>= λ ls. require (all (onDisk n) (flatMap (pairsOf n d) ls)) OffDisc >> given (flatMap (withPairs n d) ls)
-
-  -- those of the line that starts at x; none where it is not in use
+  -- the sectors of the line that starts at x; none where it is not in use
   unfoldable pub lineSectors : ℕ → Outcome (List Place)
-  lineSectors x = cond (live (entryFrom d x)) (sectorsFrom (entryFrom d x .list)) (given [])
+  lineSectors x = cond (live (entryFrom d x)) (sectorsFrom n d (entryFrom d x .list)) (given [])
 
   -- with those of a line more
   unfoldable pub withLine : ℕ → Outcome (List Place) → Outcome (List Place)
