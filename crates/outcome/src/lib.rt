@@ -41,6 +41,12 @@ pub enum Refusal {
     CutShort,
     // name asked for
     NotOnRoll,
+    // a shared sector, or a held one that the map calls free
+    NotClean,
+    // no sector, no entry line, or data over 32,768
+    NoSpace,
+    // a shown name of the catalog
+    NameTaken,
 }
 
 // The refusals' numbers, as calls return them; 0 says that nothing was refused.
@@ -79,6 +85,12 @@ pub const PAGE_FULL: u8 = 16;
 pub const CUT_SHORT: u8 = 17;
 
 pub const NOT_ON_ROLL: u8 = 18;
+
+pub const NOT_CLEAN: u8 = 20;
+
+pub const NO_SPACE: u8 = 21;
+
+pub const NAME_TAKEN: u8 = 22;
 
 // What a number says.
 pub enum Meaning {
@@ -138,6 +150,9 @@ pub fn refusal_number(r: Refusal) -> u8
         Refusal::PageFull => PAGE_FULL,
         Refusal::CutShort => CUT_SHORT,
         Refusal::NotOnRoll => NOT_ON_ROLL,
+        Refusal::NotClean => NOT_CLEAN,
+        Refusal::NoSpace => NO_SPACE,
+        Refusal::NameTaken => NAME_TAKEN,
     }
 }
 
@@ -164,6 +179,9 @@ pub fn refusal_of(number: u8) -> Meaning
         PAGE_FULL => Meaning::Refused(Refusal::PageFull),
         CUT_SHORT => Meaning::Refused(Refusal::CutShort),
         NOT_ON_ROLL => Meaning::Refused(Refusal::NotOnRoll),
+        NOT_CLEAN => Meaning::Refused(Refusal::NotClean),
+        NO_SPACE => Meaning::Refused(Refusal::NoSpace),
+        NAME_TAKEN => Meaning::Refused(Refusal::NameTaken),
         _ => Meaning::Nothing,
     }
 }
@@ -191,6 +209,9 @@ fn word_of(r: Refusal) -> Word
         Refusal::PageFull => Word(*b"page full\0\0\0\0\0\0", 9),
         Refusal::CutShort => Word(*b"cut short\0\0\0\0\0\0", 9),
         Refusal::NotOnRoll => Word(*b"not on roll\0\0\0\0", 11),
+        Refusal::NotClean => Word(*b"not clean\0\0\0\0\0\0", 9),
+        Refusal::NoSpace => Word(*b"no space\0\0\0\0\0\0\0", 8),
+        Refusal::NameTaken => Word(*b"name taken\0\0\0\0\0", 10),
     }
 }
 

@@ -15,6 +15,7 @@ use Rattle.lists.specs.Fill.{tab, below}
 use Rattle.lists.proofs.Split.{by-test, by-lt}
 use Rattle.lists.proofs.Cuts.{drop-take, take-min}
 use Rattle.lists.proofs.Chunks.{length-chunks, drop-chunks}
+use Rattle.lists.proofs.Every.{every-at}
 use Rattle.catalog.specs.declared.EntryHead.{EntryHead}
 use Rattle.files.specs.Contents.{File}
 use Rattle.files.specs.Copies.{cutOf}
@@ -32,12 +33,6 @@ map-tab f g h zero e = refl
 map-tab {A} f g h (suc k) e =
     let rest : map f (tab (λ j. h (suc j)) k) ≡ map g (tab (λ j. h (suc j)) k) = map-tab f g (λ j. h (suc j)) k (λ j l. e (suc j) (omega arith)) in
     ap (λ (x : A). x ∷ map f (tab (λ j. h (suc j)) k)) (e zero (omega arith)) ∙ ap (λ (x : List A). g (h zero) ∷ x) rest
-
--- what holds of each element holds of element i
-every-at : {P : ℕ → Type 0} {xs : List ℕ} → Every P xs → (i : ℕ) → i < length xs → P (getD xs i 0)
-every-at none i h = absurd (omega arith)
-every-at (more p ps) zero h = p
-every-at (more p ps) (suc i) h = every-at ps i (omega arith)
 
 module _ (d ns : List ℕ) where
   -- what is taken of one sector
@@ -70,7 +65,7 @@ module _ (d ns : List ℕ) where
     from-sector a h = rw (add-one a, drop-cons (take m ns) a 0 (omega (arith, count)), getD-take m ns a 0 h) refl
 
     long-at : (a : ℕ) → a < m → length (sectorAt d (getD ns a 0)) ≡ 256
-    long-at a h = ap (λ (i : ℕ). length (sectorAt d i)) (sym (getD-take m ns a 0 h)) ∙ every-at (s .long) a (omega (arith, count))
+    long-at a h = ap (λ (i : ℕ). length (sectorAt d i)) (sym (getD-take m ns a 0 h)) ∙ every-at 0 (s .long) a (omega (arith, count))
 
     -- what is taken of the next sector
     tail-cut : (from size : ℕ) → from + size ≤ 256 * m → size ≤ 256 → from / 256 < m

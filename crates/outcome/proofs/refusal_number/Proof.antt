@@ -24,6 +24,9 @@ refusal-number-spec =
     (λ c. search words)  -- enum-told-16
     (λ c. search words)  -- enum-told-17
     (λ c. search words)  -- enum-told-18
+    (λ c. search words)  -- enum-told-19
+    (λ c. search words)  -- enum-told-20
+    (λ c. search words)  -- enum-told-21
     (λ c. search words)  -- returns
     (λ c. search words)  -- returns-2
     (λ c. search words)  -- returns-3
@@ -42,4 +45,7 @@ refusal-number-spec =
     (λ c. search words)  -- returns-16
     (λ c. search words)  -- returns-17
     (λ c. search words)  -- returns-18
+    (λ c. search words)  -- returns-19
+    (λ c. search words)  -- returns-20
+    (λ c. search words)  -- returns-21
     )

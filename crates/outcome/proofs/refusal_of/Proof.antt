@@ -25,4 +25,7 @@ refusal-of-spec =
     (λ c. search words)  -- returns-17
     (λ c. search words)  -- returns-18
     (λ c. search words)  -- returns-19
+    (λ c. search words)  -- returns-20
+    (λ c. search words)  -- returns-21
+    (λ c. search words)  -- returns-22
     )
