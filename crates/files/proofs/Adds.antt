@@ -61,11 +61,16 @@ pub front-name : (raw : List ℕ) → take (nameOf raw .length) (nameOf raw .let
 unfolding padded
 front-name raw = take-at (shown raw) _ (length (shown raw)) refl
 
+pub has-name-is : (d : List ℕ) (x : ℕ) (w : List ℕ) (f : FileEntry) (r : Bool) → f ≡ fileEntry (entryFrom d x)
+    → r ≡ same w (take (f .name .length) (f .name .letters)) → r ≡ same w (shown (entryFrom d x .raw))
+has-name-is d x w f r a q =
+    q ∙ ap (λ (i : FileEntry). same w (take (i .name .length) (i .name .letters))) a ∙ ap (same w) (front-name (entryFrom d x .raw))
+
+pub ruleset names = (has-name-is, needs)
+
 module _ (d : List ℕ) (x : ℕ) (b : Bool) (w : List ℕ) (j k : ℕ) where
-  pub picks-name : (f : FileEntry) (r : Bool) → b ≡ true → f ≡ fileEntry (entryFrom d x) → r ≡ same w (take (f .name .length) (f .name .letters))
-      → r ≡ cond b (same w (shown (entryFrom d x .raw))) (eqb j k)
-  picks-name f r e a q =
-      q ∙ ap (λ (i : FileEntry). same w (take (i .name .length) (i .name .letters))) a ∙ ap (same w) (front-name (entryFrom d x .raw)) ∙ sym (rw e refl)
+  pub picks-name : (r : Bool) → b ≡ true → r ≡ same w (shown (entryFrom d x .raw)) → r ≡ cond b (same w (shown (entryFrom d x .raw))) (eqb j k)
+  picks-name r e q = q ∙ sym (rw e refl)
 
   pub picks-number : b ≡ false → eqb j k ≡ cond b (same w (shown (entryFrom d x .raw))) (eqb j k)
   picks-number e = rw e refl

@@ -290,7 +290,7 @@ fn no_choice() -> Choice
     }
 }
 
-// The name is the entry's shown name.
+// The name is the shown name.
 fn same_name(name: &[u8], shown: Name) -> bool
     ensures { λ r. ⌜ r ≡ same (now (name .entry)) (take (shown .length) (shown .letters)) ⌝ }
 {
@@ -299,13 +299,20 @@ fn same_name(name: &[u8], shown: Name) -> bool
     same(name, part(&letters, 0, n))
 }
 
+// The name is that of the entry from x on.
+pub fn has_name(disk: &[u8], x: usize, name: &[u8]) -> bool
+    ensures { λ r. ⌜ r ≡ same (now (name .entry)) (shown (entryFrom (now (disk .entry)) x .raw)) ⌝ }
+{
+    let e = parse_file_entry(disk, x);
+    same_name(name, e.name)
+}
+
 // The entry from x on, which is number j, is the one asked for: by its name, which is not read else, or by its number.
 fn picks(disk: &[u8], x: usize, named: bool, number: u64, name: &[u8], j: u32) -> bool
     ensures { λ r. ⌜ r ≡ cond named (same (now (name .entry)) (shown (entryFrom (now (disk .entry)) x .raw))) (eqb j number) ⌝ }
 {
     if named {
-        let e = parse_file_entry(disk, x);
-        return same_name(name, e.name);
+        return has_name(disk, x, name);
     }
     j as u64 == number
 }

@@ -54,7 +54,7 @@ fn low_bytes(name: &[u8]) -> bool
 }
 
 // A name that can be written.
-fn writable_name(name: &[u8]) -> bool
+pub fn writable_name(name: &[u8]) -> bool
     ensures { λ r. ⌜ r ≡ writable (now (name .entry)) ⌝ }
 {
     if name.len() == 0 {

@@ -1,0 +1,102 @@
+-- The steps of a save and a delete: the lines looked along, and the sectors of a file called free in a copy of the VTOC.
+use mathlib.Core.Path.{_≡_}
+use mathlib.Core.Bool.{Bool, true, false, cond, not, _&&_}
+use mathlib.Core.List.{List, [], _∷_, flatMap, foldl}
+use mathlib.Core.Option.{Option, none, some}
+use Prim.Native.Nat.{ℕ, zero, suc, _+_, _*_}
+use Rattle.outcome.specs.Outcome.{given}
+use Rattle.disk.specs.declared.Place.{Place}
+use Rattle.disk.specs.Disk.{start, bytesOf}
+use Rattle.disk.specs.Vtoc.{vtoc}
+use Rattle.catalog.specs.Catalog.{entryFrom, pages}
+use Rattle.files.specs.Contents.{listWalk}
+use Rattle.holders.specs.Holders.{withPairs}
+use Rattle.amend.specs.Lines.{firstOf, lastOf, isNamed, inUse, starts}
+use Rattle.allot.specs.Table.{markOn}
+use Rattle.saving.specs.declared.Sight.{Sight}
+
+-- ---- the lines looked along
+-- a line was found, and where it starts; 0 where none was
+abbrev pub isSome : Option ℕ → Bool
+isSome none = false
+isSome (some x) = true
+
+abbrev pub startOr0 : Option ℕ → ℕ
+startOr0 none = 0
+startOr0 (some x) = x
+
+-- the line of the name, and the line that is not in use, as a look finds them
+abbrev pub sight : (line room : Option ℕ) → Sight
+sight a b = record { named = isSome a; line = startOr0 a; vacant = isSome b; room = startOr0 b }
+
+-- a line that is not in use
+abbrev pub idle : List ℕ → ℕ → Bool
+idle d x = not (inUse d x)
+
+module _ (d name : List ℕ) where
+  -- a line in use that shows the name
+  abbrev pub bears : ℕ → Bool
+  bears x = inUse d x && isNamed name (entryFrom d x)
+
+  -- the last of the lines xs with the name, and the first that is not in use
+  unfoldable pub sightOf : List ℕ → Sight
+  sightOf xs = sight (lastOf bears xs) (firstOf (idle d) xs)
+
+  -- with the line x more, behind them
+  unfoldable pub seeLine : Sight → ℕ → Sight
+  seeLine s x =
+      record {
+        named = cond (bears x) true (s .named);
+        line = cond (bears x) x (s .line);
+        vacant = cond (s .vacant) true (idle d x);
+        room = cond (s .vacant) (s .room) (cond (idle d x) x (s .room));
+      }
+
+  -- with the first i lines of a page more
+  unfoldable pub seeLines : Place → (i : ℕ) → Sight → Sight
+  seeLines p zero s = s
+  seeLines p (suc i) s = seeLine (seeLines p i s) (start 16 p + (11 + 35 * i))
+
+  -- with a page more
+  unfoldable pub seePage : Sight → Place → Sight
+  seePage s p = seeLines p 7 s
+
+  -- a line was looked at
+  pub record LineSeen (before : Sight) (x : ℕ) (r : Sight) : Type 0 where
+    pub is : r ≡ seeLine before x
+
+  -- a page was
+  pub record PageSeen (before : Sight) (p : Place) (r : Sight) : Type 0 where
+    pub is : r ≡ seePage before p
+
+  -- the lines of the disk were
+  pub record Seen (r : Sight) : Type 0 where
+    pub is : (ps : List Place) → pages 16 d ≡ given ps → r ≡ sightOf (starts 16 ps)
+
+-- the pages were read before
+pub record Paged (d : List ℕ) : Type 0 where
+  pub places : List Place
+  pub is : pages 16 d ≡ given places
+
+-- ---- sectors called free
+-- some sectors, one after the other; a place that is not on the disk is passed over
+unfoldable pub frees : List ℕ → List Place → List ℕ
+frees T ps = foldl (λ (U : List ℕ) (p : Place). markOn U 1 p) T ps
+
+pub record PairsFreed (ps : List Place) (before after : List ℕ) : Type 0 where
+  pub is : after ≡ frees before ps
+
+pub record ListFreed (d : List ℕ) (p : Place) (before after : List ℕ) : Type 0 where
+  pub is : after ≡ frees before (withPairs 16 d p)
+
+-- the lists from p on were followed before
+pub record Linked (d : List ℕ) (p : Place) : Type 0 where
+  pub lists : List Place
+  pub is : listWalk 16 d p ≡ given lists
+
+pub record ListsFreed (d : List ℕ) (p : Place) (before after : List ℕ) : Type 0 where
+  pub is : (ls : List Place) → listWalk 16 d p ≡ given ls → after ≡ frees before (flatMap (withPairs 16 d) ls)
+
+-- a copy of the VTOC was made
+pub record Copied (d r : List ℕ) : Type 0 where
+  pub is : r ≡ bytesOf 16 d vtoc
