@@ -12,6 +12,7 @@ use borrow.Author.Needs.{needs}
 use Rattle.lists.specs.Fill.{padded, placed}
 use Rattle.lists.specs.Words.{le2}
 use Rattle.lists.proofs.Laws.{length-padded, drop-zeros, placed-zeros}
+use Rattle.lists.proofs.Placed.{length-placed}
 use Rattle.lists.proofs.Put.{Put, placed-put, put-more, put-front}
 use Rattle.disk.specs.declared.Place.{Place}
 use Rattle.disk.specs.Disk.{place, start}
@@ -84,13 +85,17 @@ pub record Listing (P : List ℕ) (count j : ℕ) (d o : List ℕ) : Type 0 wher
   pub few : count ≤ 100
   pub done : j ≤ count
   pub is : o ≡ withLists P j d
+  pub long : length o ≡ length d
 
 module _ (P : List ℕ) (count : ℕ) where
   pub lists-none : (d : List ℕ) → count ≤ 100 → Listing P count 0 d d
   unfolding withLists
-  lists-none d h = record { few = h; done = omega arith; is = refl }
+  lists-none d h = record { few = h; done = omega arith; is = refl; long = refl }
 
   module _ (j : ℕ) (d o : List ℕ) (c : Listing P count j d o) where
+    pub lists-long : length o ≡ length d
+    lists-long = c .long
+
     pub lists-small : j < count → j ≤ 100
     lists-small h = let f = c .few in omega arith
 
@@ -101,12 +106,12 @@ module _ (P : List ℕ) (count : ℕ) where
         → Listing P count (j + 1) d o′
     unfolding withLists
     lists-more x m p at o′ e ep ea h =
-        record { few = c .few; done = omega arith; is = e ∙ rw (add-one j, ea, ep, m .is, c .is) refl }
+        record { few = c .few; done = omega arith; is = e ∙ rw (add-one j, ea, ep, m .is, c .is) refl; long = ap length e ∙ length-placed at x o ∙ c .long }
 
     pub lists-done : count ≤ j → ListsWritten P count d o
     lists-done h = let e : j ≡ count = omega (arith, c .done) in record { is = rw e at (c .is) }
 
-pub ruleset listings = (lists-none, lists-small, lists-place, lists-more, lists-done, needs)
+pub ruleset listings = (lists-none, lists-long, lists-small, lists-place, lists-more, lists-done, needs)
 
 -- ---- the data
 pub record Storing (P : List ℕ) (address : ℕ) (bytes : List ℕ) (count k : ℕ) (d o : List ℕ) : Type 0 where
@@ -114,13 +119,17 @@ pub record Storing (P : List ℕ) (address : ℕ) (bytes : List ℕ) (count k : 
   pub few : count ≤ 500
   pub done : k ≤ count
   pub is : o ≡ withData P (fileRecord address (length bytes) bytes) k d
+  pub long : length o ≡ length d
 
 module _ (P : List ℕ) (address : ℕ) (bytes : List ℕ) (count : ℕ) where
   pub data-none : (d : List ℕ) → length bytes ≤ 32768 → count ≤ 500 → Storing P address bytes count 0 d d
   unfolding withData
-  data-none d l h = record { size = l; few = h; done = omega arith; is = refl }
+  data-none d l h = record { size = l; few = h; done = omega arith; is = refl; long = refl }
 
   module _ (k : ℕ) (d o : List ℕ) (c : Storing P address bytes count k d o) where
+    pub data-long : length o ≡ length d
+    data-long = c .long
+
     pub data-size : length bytes ≤ 32768
     data-size = c .size
 
@@ -134,12 +143,12 @@ module _ (P : List ℕ) (address : ℕ) (bytes : List ℕ) (count : ℕ) where
         → Storing P address bytes count (k + 1) d o′
     unfolding withData
     data-next x m p at o′ e ep ea h =
-        record { size = c .size; few = c .few; done = omega arith; is = e ∙ rw (add-one k, ea, ep, m .is, c .is) refl }
+        record { size = c .size; few = c .few; done = omega arith; is = e ∙ rw (add-one k, ea, ep, m .is, c .is) refl; long = ap length e ∙ length-placed at x o ∙ c .long }
 
     pub data-done : count ≤ k → DataWritten P address bytes count d o
     data-done h = let e : k ≡ count = omega (arith, c .done) in record { is = rw e at (c .is) }
 
-pub ruleset storings = (data-none, data-size, data-small, data-place, data-next, data-done, needs)
+pub ruleset storings = (data-none, data-long, data-size, data-small, data-place, data-next, data-done, needs)
 
 -- ---- the file
 module _ (P : List ℕ) (address : ℕ) (bytes : List ℕ) (d : List ℕ) where
