@@ -2,17 +2,16 @@
 use mathlib.Core.Path.{_≡_, refl, sym, ap, _∙_}
 use mathlib.Core.Bool.{Bool, true, false}
 use mathlib.Core.List.{List, [], _∷_, _++_, flatMap, append-nil}
-use Prim.Native.Nat.{ℕ, zero, suc, _+_, _*_, _-_, _/_, _%_, _<_, _≤_, min}
+use Prim.Native.Nat.{ℕ, zero, suc, _+_, _*_, _-_, _/_, _<_, _≤_}
 use native.Mathlib.Nat.{zero-add}
 use native.Mathlib.Omega.{arith}
-use lib.ListN.{length, getD, take, drop, length-append, length-take, length-drop, List·getD-append, List·getD-eq-default}
+use lib.ListN.{length, getD, take, drop, length-append, length-take, List·getD-append, List·getD-eq-default}
 use lib.Seq.{getD-append-add, getD-take, getD-drop, ext-getD, drop-drop}
 use lib.Dec.{leb}
 use borrow.Author.Tests.{le-leb}
 use Rattle.lists.specs.Every.{Every}
 use Rattle.lists.specs.Every
 use Rattle.lists.specs.Fill.{padded, put, placed}
-use Rattle.lists.specs.Words.{le2}
 use Rattle.lists.proofs.Split.{by-lt, by-test}
 use Rattle.lists.proofs.Laws.{length-padded, getD-padded}
 use Rattle.lists.proofs.Chunks.{split-every, every-append, flatMap-append}
@@ -20,7 +19,7 @@ use Rattle.lists.proofs.Placed.{length-placed}
 use Rattle.lists.proofs.Put.{placed-put}
 use Rattle.disk.specs.declared.Place.{Place}
 use Rattle.disk.specs.Disk.{place, start, onDisk, sectors}
-use Rattle.files.specs.Contents.{placeBytes, maxPairs}
+use Rattle.files.specs.Contents.{placeBytes}
 use Rattle.records.specs.Records.{fileRecord}
 use Rattle.amend.specs.Save.{Part, Write, dataFor, listsFor, firstList, sectorsIn, dataOf, listSector, listWrites, dataWrites, written, fileWrites}
 use Rattle.amend.proofs.Puts.{sector-fits}
@@ -63,7 +62,7 @@ sector-at (p ∷ ps) zero = refl
 sector-at (p ∷ ps) (suc i) = let e : 2 * suc i + 1 ≡ suc (suc (2 * i + 1)) = omega arith in rw e (sector-at ps i)
 
 -- ---- parts whose sectors are all on the disk, m data sectors in lists of 122
-pub record Fit (m : ℕ) (gs : List Part) : Type 0 where
+record Fit (m : ℕ) (gs : List Part) : Type 0 where
   pub later : Bool
   pub shape : Shaped m later gs
   pub count : length gs ≡ listsFor m
@@ -104,7 +103,7 @@ fit-tail m g gs f =
     }
 
 -- the places from byte 246 * j on are those of gs
-pub record Behind (P : List ℕ) (j : ℕ) (gs : List Part) : Type 0 where
+record Behind (P : List ℕ) (j : ℕ) (gs : List Part) : Type 0 where
   pub is : (i : ℕ) → getD P (246 * j + i) 0 ≡ getD (flatMap placeBytes (sectorsIn gs)) i 0
 
 module _ (P : List ℕ) where

@@ -1,23 +1,21 @@
 -- The sectors of a file, written from their places, function by function. Assumes nothing.
-use mathlib.Core.Path.{_≡_, refl, sym, ap, _∙_}
-use mathlib.Core.List.{List, [], _∷_, _++_, append-assoc}
-use Prim.Native.Nat.{ℕ, zero, suc, _+_, _*_, _-_, _/_, _%_, _<_, _≤_}
+use mathlib.Core.Path.{_≡_, refl, ap, _∙_}
+use mathlib.Core.List.{List, [], _∷_, _++_}
+use Prim.Native.Nat.{ℕ, _+_, _*_, _-_, _/_, _%_, _<_, _≤_}
 use native.Mathlib.Numerals.{add-one}
 use native.Mathlib.Omega.{arith}
 use lib.ListN.{length, getD, take, drop, replicate, length-take, length-replicate}
 use lib.Seq.{drop-append-add}
-use lib.Dec.{leb}
 use borrow.Author.Tests.{le-leb, lt-leb}
 use borrow.Author.Needs.{needs}
 use Rattle.lists.specs.Fill.{padded, placed}
 use Rattle.lists.specs.Words.{le2}
-use Rattle.lists.proofs.Laws.{length-padded, drop-zeros, placed-zeros}
+use Rattle.lists.proofs.Laws.{drop-zeros, placed-zeros}
 use Rattle.lists.proofs.Placed.{length-placed}
 use Rattle.lists.proofs.Put.{Put, placed-put, put-more, put-front}
 use Rattle.disk.specs.declared.Place.{Place}
 use Rattle.disk.specs.Disk.{place, start}
 use Rattle.records.specs.Records.{fileRecord}
-use Rattle.amend.specs.Save.{dataFor, listsFor}
 use Rattle.filing.specs.Filing.{placeIn, listIn, withLists, dataIn, withData, filed, Filed}
 use Rattle.filing.specs.Steps.{ListMade, DataMade, ListsWritten, DataWritten}
 
@@ -82,13 +80,13 @@ pub ruleset dataMakes = (data-first, data-more, needs)
 
 -- ---- the lists
 pub record Listing (P : List ℕ) (count j : ℕ) (d o : List ℕ) : Type 0 where
-  pub few : count ≤ 100
+  pub few : count ≤ 2
   pub done : j ≤ count
   pub is : o ≡ withLists P j d
   pub long : length o ≡ length d
 
 module _ (P : List ℕ) (count : ℕ) where
-  pub lists-none : (d : List ℕ) → count ≤ 100 → Listing P count 0 d d
+  pub lists-none : (d : List ℕ) → count ≤ 2 → Listing P count 0 d d
   unfolding withLists
   lists-none d h = record { few = h; done = omega arith; is = refl; long = refl }
 
@@ -96,10 +94,10 @@ module _ (P : List ℕ) (count : ℕ) where
     pub lists-long : length o ≡ length d
     lists-long = c .long
 
-    pub lists-small : j < count → j ≤ 100
+    pub lists-small : j < count → j < 2
     lists-small h = let f = c .few in omega arith
 
-    pub lists-place : j < count → 123 * j ≤ 100000
+    pub lists-place : j < count → 123 * j < 131
     lists-place h = let f = c .few in omega arith
 
     pub lists-more : (x : List ℕ) → ListMade P j x → (p : Place) (at : ℕ) (o′ : List ℕ) → o′ ≡ placed at x o → p ≡ placeIn P (123 * j) → at ≡ start 16 p → j < count
@@ -116,13 +114,13 @@ pub ruleset listings = (lists-none, lists-long, lists-small, lists-place, lists-
 -- ---- the data
 pub record Storing (P : List ℕ) (address : ℕ) (bytes : List ℕ) (count k : ℕ) (d o : List ℕ) : Type 0 where
   pub size : length bytes ≤ 32768
-  pub few : count ≤ 500
+  pub few : count ≤ 129
   pub done : k ≤ count
   pub is : o ≡ withData P (fileRecord address (length bytes) bytes) k d
   pub long : length o ≡ length d
 
 module _ (P : List ℕ) (address : ℕ) (bytes : List ℕ) (count : ℕ) where
-  pub data-none : (d : List ℕ) → length bytes ≤ 32768 → count ≤ 500 → Storing P address bytes count 0 d d
+  pub data-none : (d : List ℕ) → length bytes ≤ 32768 → count ≤ 129 → Storing P address bytes count 0 d d
   unfolding withData
   data-none d l h = record { size = l; few = h; done = omega arith; is = refl; long = refl }
 
@@ -133,10 +131,10 @@ module _ (P : List ℕ) (address : ℕ) (bytes : List ℕ) (count : ℕ) where
     pub data-size : length bytes ≤ 32768
     data-size = c .size
 
-    pub data-small : k < count → k ≤ 1000
+    pub data-small : k < count → k < 129
     data-small h = let f = c .few in omega arith
 
-    pub data-place : k < count → k + 1 + k / 122 ≤ 100000
+    pub data-place : k < count → k + 1 + k / 122 < 131
     data-place h = let f = c .few in omega arith
 
     pub data-next : (x : List ℕ) → DataMade address bytes k x → (p : Place) (at : ℕ) (o′ : List ℕ) → o′ ≡ placed at x o → p ≡ placeIn P (k + 1 + k / 122) → at ≡ start 16 p → k < count

@@ -1,6 +1,6 @@
 // The sectors of a saved file, lists and data, written to a flat disk: Req 09. Not of the Rust.
-ghost use Prim.Native.Nat.{_≤_};
 ghost use mathlib.Core.Path.{_≡_};
+ghost use Prim.Native.Nat.{_<_, _≤_};
 ghost use lib.ListN.{length};
 ghost use Rattle.filing.specs.Filing.{placeIn, Filed};
 ghost use Rattle.filing.specs.Steps.{ListMade, DataMade, ListsWritten, DataWritten};
@@ -15,7 +15,7 @@ use lists::put_word;
 
 // Place i of those kept as pairs of bytes.
 fn place_in(places: &[u8], i: usize) -> Place
-    requires { ⌜ i ≤ 100000 ⌝ }
+    requires { ⌜ i < 131 ⌝ }
     ensures { λ r. ⌜ r ≡ placeIn (now (places .entry)) i ⌝ }
 {
     let track = byte_at(places, 2 * i);
@@ -28,7 +28,7 @@ fn place_in(places: &[u8], i: usize) -> Place
 
 // The 256 bytes of list j: the next list, the pairs of earlier lists, its own pairs.
 fn list_sector(places: &[u8], j: usize) -> [u8; 256]
-    requires { ⌜ j ≤ 100 ⌝ }
+    requires { ⌜ j < 2 ⌝ }
     ensures { λ r. ⌜ ListMade (now (places .entry)) j r ⌝ }
 {
     let track = byte_at(places, 246 * (j + 1));
@@ -44,7 +44,7 @@ fn list_sector(places: &[u8], j: usize) -> [u8; 256]
 
 // The 256 bytes of data sector k: address and length stand before the data.
 fn data_sector(address: u16, data: &[u8], k: usize) -> [u8; 256]
-    requires { ⌜ (length (now «data») ≤ 32768) × (k ≤ 1000) ⌝ }
+    requires { ⌜ (length (now «data») ≤ 32768) × (k < 129) ⌝ }
     ensures { λ r. ⌜ DataMade address (now («data» .entry)) k r ⌝ }
 {
     let mut sector = [0u8; 256];
@@ -60,7 +60,7 @@ fn data_sector(address: u16, data: &[u8], k: usize) -> [u8; 256]
 
 // Writes the first lists.
 fn write_lists(disk: &mut [u8], places: &[u8], count: usize)
-    requires { ⌜ count ≤ 100 ⌝ }
+    requires { ⌜ count ≤ 2 ⌝ }
     ensures { λ _. ⌜ ListsWritten (now (places .entry)) count (now (disk .entry)) (now (disk .exit)) ⌝ }
 {
     for j in 0..count {
@@ -72,7 +72,7 @@ fn write_lists(disk: &mut [u8], places: &[u8], count: usize)
 
 // Writes the first data sectors.
 fn write_data(disk: &mut [u8], places: &[u8], address: u16, data: &[u8], count: usize)
-    requires { ⌜ (length (now «data») ≤ 32768) × (count ≤ 500) ⌝ }
+    requires { ⌜ (length (now «data») ≤ 32768) × (count ≤ 129) ⌝ }
     ensures { λ _. ⌜ DataWritten (now (places .entry)) address (now («data» .entry)) count (now (disk .entry)) (now (disk .exit)) ⌝ }
 {
     for k in 0..count {
