@@ -32,19 +32,19 @@ module _ (P : List ℕ) where
   length-lists : (j : ℕ) (d : List ℕ) → length (withLists P j d) ≡ length d
   unfolding withLists
   length-lists zero d = refl
-  length-lists (suc j) d = length-placed (start 16 (placeIn P (123 * j))) (listIn P j) (withLists P j d) ∙ length-lists j d
+  length-lists (suc j) d = length-placed _ _ (withLists P j d) ∙ length-lists j d
 
   length-data : (s : List ℕ) (k : ℕ) (d : List ℕ) → length (withData P s k d) ≡ length d
   unfolding withData
   length-data s zero d = refl
-  length-data s (suc k) d = length-placed (start 16 (placeIn P (k + 1 + k / 122))) (dataIn s k) (withData P s k d) ∙ length-data s k d
+  length-data s (suc k) d = length-placed _ _ (withData P s k d) ∙ length-data s k d
 
 -- the disk stays as long as it was
 pub filed-long : (P : List ℕ) (address : ℕ) (bytes d : List ℕ) → length (filed P address bytes d) ≡ length d
 unfolding filed
 filed-long P address bytes d =
     by-test (leb (length bytes) 32768)
-    (λ e. rw e (length-data P (fileRecord address (length bytes) bytes) (dataFor (length bytes)) _ ∙ length-lists P (listsFor (dataFor (length bytes))) d))
+    (λ e. rw e (length-data P _ (dataFor (length bytes)) _ ∙ length-lists P (listsFor (dataFor (length bytes))) d))
     (λ e. rw e refl)
 
 -- ---- places as pairs of bytes
