@@ -2,7 +2,7 @@
 -- two bytes each: sector 123 * j of a save is its list j, and the 122 behind it are the data sectors of that list.
 use mathlib.Core.Path.{_≡_}
 use mathlib.Core.Bool.{cond}
-use mathlib.Core.List.{List, [], _∷_, _++_}
+use mathlib.Core.List.{List, _∷_, _++_}
 use Prim.Native.Nat.{ℕ, zero, suc, _+_, _*_, _/_}
 use lib.ListN.{length, getD, take, drop}
 use lib.Dec.{leb}
