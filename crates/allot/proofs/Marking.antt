@@ -17,7 +17,7 @@ use Rattle.disk.proofs.Places.{on-track, on-sector}
 use Rattle.holders.specs.Holders.{bit}
 use Rattle.amend.specs.Search.{withBit}
 use Rattle.amend.proofs.Bits.{bit-part, with-small}
-use Rattle.allot.specs.Table.{markOn, Marked}
+use Rattle.allot.specs.Table.{mapIn, markOn, Marked}
 use Rattle.allot.specs.Steps.{MadeBit}
 
 -- ---- a number's bit
@@ -51,12 +51,12 @@ new-fits s (suc (suc v)) h l = absurd (omega arith)
 pub ruleset bits = (bit-less, bit-fits, new-fits, bit-sum, bit-done, needs)
 
 -- ---- a sector's bit in a table
-pub bit-made : (T T′ : List ℕ) (p : Place) (v a b w : ℕ) → T′ ≡ placed (56 + 4 * p .track .0) (w / 256 ∷ w % 256 ∷ []) T → w ≡ withBit (p .sector .0) v (256 * a + b)
-    → a ≡ getD T (56 + 4 * p .track .0) 0 → b ≡ getD T (57 + 4 * p .track .0) 0 → length T ≡ 256 → p .track .0 < 35 → MadeBit v p T T′
-bit-made T T′ p v a b w e q x y l h =
+pub bit-made : (T T′ : List ℕ) (p : Place) (v m w : ℕ) → T′ ≡ placed (56 + 4 * p .track .0) (w / 256 ∷ w % 256 ∷ []) T → w ≡ withBit (p .sector .0) v m
+    → m ≡ mapIn T (p .track .0) → length T ≡ 256 → p .track .0 < 35 → MadeBit v p T T′
+bit-made T T′ p v m w e q x l h =
     let z : p .sector .0 + (16 - 16) ≡ p .sector .0 = omega arith in
     let f = placed-put e (omega arith) in
-    record { is = f .is ∙ rw (z, ← x, ← y, ← q) refl }
+    record { is = f .is ∙ rw (z, ← x, ← q) refl }
 
 pub ruleset tables = (bit-made, needs)
 

@@ -3,7 +3,7 @@
 use mathlib.Core.Path.{_≡_, refl, sym, ap, _∙_}
 use mathlib.Core.Bool.{Bool}
 use mathlib.Core.Logic.{inl, inr}
-use mathlib.Core.List.{List, [], _∷_, _++_, flatMap}
+use mathlib.Core.List.{List, [], _∷_, _++_}
 use mathlib.Core.Option.{Option, none, some}
 use Prim.Native.Nat.{ℕ, _+_, _*_, _-_, _/_, _%_, _<_, _≤_}
 use native.Mathlib.Omega.{arith}
@@ -18,11 +18,9 @@ use Rattle.disk.specs.Disk.{start, byteOf, bytesOf, sectors}
 use Rattle.allot.specs.Table.{mapIn, markedIn, takenIn}
 use Rattle.disk.specs.Vtoc.{vtoc, mapWord}
 use Rattle.holders.specs.Holders.{bit, free}
-use Rattle.amend.specs.Lines.{firstOf, found}
-use Rattle.outcome.specs.declared.Refusal.the-variants.{NoSpace}
-use Rattle.lists.proofs.Chunks.{flatMap-append}
+use Rattle.amend.specs.Lines.{firstOf}
 use Rattle.disk.proofs.Places.{is-on}
-use Rattle.amend.specs.Search.{Visit, Spot, toEdge, opposite, route, directionOf, trackOf, spotsOf, spots, takable, seek, withBit, marked, taken}
+use Rattle.amend.specs.Search.{Spot, withBit, marked, taken}
 use Rattle.amend.proofs.Puts.{put-off, put-in, byte-sector, sector-fits, sector-put}
 
 -- ---- a part put into a part
@@ -80,6 +78,10 @@ put-self a k d f =
     (λ v. put-off a (take k (drop a d)) d g i (inr (omega arith)))))
 
 -- ---- a table of its own
+-- a bit made v leaves it as long as it is
+pub length-marked : (n : ℕ) (T : List ℕ) (v : ℕ) (p : Place) → length T ≡ 256 → p .track .0 < 35 → length (markedIn n T v p) ≡ 256
+length-marked n T v p long h = length-put (56 + 4 * p .track .0) _ T (omega arith) ∙ long
+
 module _ (n : ℕ) (some′ : 0 < n) (d : List ℕ) (size : length d ≡ 256 * sectors n) where
   -- the disk with this table
   abbrev pub withTable : List ℕ → List ℕ
@@ -118,7 +120,7 @@ module _ (n : ℕ) (some′ : 0 < n) (d : List ℕ) (size : length d ≡ 256 * s
         ∙ put-inner (start n vtoc) (56 + 4 * p .track .0) (w / 256 ∷ w % 256 ∷ []) T d (let r = room in omega arith) (omega arith)
 
     pub marked-long : (v : ℕ) (p : Place) → p .track .0 < 35 → length (markedIn n T v p) ≡ 256
-    marked-long v p h = length-put (56 + 4 * p .track .0) _ T (omega arith) ∙ long
+    marked-long v p h = length-marked n T v p long h
 
   pub table-taken : (T : List ℕ) → length T ≡ 256 → (q : Spot) → q .place .track .0 < 35 → taken n (withTable T) q ≡ withTable (takenIn n T q)
   unfolding taken
@@ -136,30 +138,3 @@ pub first-append : {A : Type 0} (test : A → Bool) (xs ys : List A) → firstOf
 unfolding firstOf
 first-append test [] ys = refl
 first-append test (x ∷ xs) ys = by-test (test x) (λ e. rw e refl) (λ e. rw e (first-append test xs ys))
-
--- the search, leg by leg and track by track
-module _ (n : ℕ) (d : List ℕ) (later : Bool) where
-  abbrev pub test : Spot → Bool
-  test q = takable n d later (q .place)
-
-  -- what is found on one leg
-  unfoldable pub leg : (direction t : ℕ) → Option Spot
-  leg dir t = firstOf test (flatMap (spotsOf n) (toEdge dir t))
-
-  pub seek-legs : (last dir : ℕ) → last ≡ trackOf (byteOf n d vtoc 48) → dir ≡ directionOf (byteOf n d vtoc 49)
-      → seek n d later ≡ found (orElse (leg dir last) (orElse (leg (opposite dir) 17) (leg dir 17))) NoSpace
-  unfolding seek spots route leg
-  seek-legs last dir a b =
-      rw (← a, ← b)
-      (ap (λ (o : Option Spot). found o NoSpace)
-      (ap (firstOf test)
-      (flatMap-append (spotsOf n) (toEdge dir last) (toEdge (opposite dir) 17 ++ toEdge dir 17)
-      ∙ ap (λ (l : List Spot). flatMap (spotsOf n) (toEdge dir last) ++ l) (flatMap-append (spotsOf n) (toEdge (opposite dir) 17) (toEdge dir 17)))
-      ∙ first-append test (flatMap (spotsOf n) (toEdge dir last)) (flatMap (spotsOf n) (toEdge (opposite dir) 17) ++ flatMap (spotsOf n) (toEdge dir 17))
-      ∙ ap (orElse (firstOf test (flatMap (spotsOf n) (toEdge dir last))))
-      (first-append test (flatMap (spotsOf n) (toEdge (opposite dir) 17)) (flatMap (spotsOf n) (toEdge dir 17)))))
-
-  -- a track, and the others of the leg
-  pub track-first : (v : Visit) (vs : List Visit) → firstOf test (flatMap (spotsOf n) (v ∷ vs)) ≡ orElse (firstOf test (spotsOf n v)) (firstOf test (flatMap (spotsOf n) vs))
-  unfolding flatMap
-  track-first v vs = first-append test (spotsOf n v) (flatMap (spotsOf n) vs)

@@ -6,21 +6,12 @@ pub mark-in-spec : {M : Type 1} → statement M
 mark-in-spec =
     tie.close
     (tie.spec
-    (λ c. search tables)  -- cast-t
-    (λ c. search tables)  -- mul-byte-at
-    (λ c. search tables)  -- add-byte-at
-    (λ c κs. search tables)  -- byte-at-requires
-    (λ c. search tables)  -- cast-high
-    (λ c. search tables)  -- mul-byte-at-2
-    (λ c. search tables)  -- add-byte-at-2
-    (λ c κs. search tables)  -- byte-at-requires-2
-    (λ c. search tables)  -- cast-low
-    (λ c. search tables)  -- mul-with-bit
-    (λ c. search tables)  -- add-with-bit
+    (λ c κs. search tables)  -- map-of-requires
     (λ c κs. search tables)  -- with-bit-requires
     (λ c. search tables)  -- cast-t9
-    (λ c. search tables)  -- cast-t18
+    (λ c. search tables)  -- cast-t11
     (λ c. search tables)  -- slice-aggregate-copy-at
+    (λ c. search tables)  -- cast-copy-at
     (λ c. search tables)  -- mul-copy-at
     (λ c. search tables)  -- add-copy-at
     (λ c κs. search tables)  -- copy-at-requires
