@@ -1,0 +1,5 @@
+pub mod Working
+pub mod Marking
+pub mod Seeking
+pub mod Spots
+pub mod Taking
