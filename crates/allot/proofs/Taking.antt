@@ -117,14 +117,14 @@ take-more m T₀ P₀ i T P T′ P′ b q t h k f e p =
     }
 
 -- where one was not found, all is as it was then
-stays : (T P : List ℕ) (m i : ℕ) (a : Allotment) → i ≤ m → takeAll i T P ≡ a → a .found ≡ false → takeAll m T P ≡ a
+pub stays : (T P : List ℕ) (m i : ℕ) (a : Allotment) → i ≤ m → takeAll i T P ≡ a → a .found ≡ false → takeAll m T P ≡ a
 unfolding takeAll
 stays T P zero i a h e f = let z : i ≡ 0 = omega arith in rw z at e
 stays T P (suc m) i a h e f =
     by-lt m i (λ l. let z : i ≡ suc m = omega arith in rw z at e)
     (λ l. ap (takeNext m) (stays T P m i a l e f) ∙ rw f refl)
 
-all-is : (m : ℕ) (T P : List ℕ) → length T ≡ 256 → 2 * m ≤ length P → takeAll m T P ≡ allotted m T P
+pub all-is : (m : ℕ) (T P : List ℕ) → length T ≡ 256 → 2 * m ≤ length P → takeAll m T P ≡ allotted m T P
 unfolding allotted
 all-is m T P l h = rw (eq-eqb _ _ l, le-leb (2 * m) (length P) h) refl
 
