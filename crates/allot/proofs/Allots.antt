@@ -1,29 +1,28 @@
 -- For callers: the sectors of a save, taken on a disk, are those that were taken in a copy of its VTOC. Assumes nothing.
 use mathlib.Core.Path.{_≡_, refl, sym, ap, _∙_}
 use mathlib.Core.Bool.{Bool, true, false, cond, not, _&&_}
-use mathlib.Core.List.{List, [], _∷_, _++_, flatMap}
+use mathlib.Core.List.{List, [], _∷_, flatMap}
 use mathlib.Core.Option.{Option, none, some}
 use Prim.Native.Nat.{ℕ, zero, suc, _+_, _*_, _%_, _<_, _≤_}
 use native.Mathlib.Nat.{add-zero, zero-add}
 use native.Mathlib.Omega.{arith}
-use lib.ListN.{length, getD, replicate, length-append, length-replicate}
+use lib.ListN.{length, getD, replicate, length-replicate}
 use lib.Dec.{eqb, leb}
 use borrow.Author.Tests.{eqb-true, leb-true}
 use Rattle.lists.specs.Fill.{put, padded}
 use Rattle.lists.proofs.Split.{by-test, both-true, clash}
 use Rattle.lists.proofs.Put.{Put, length-put, put-is, put-none, put-more, put-front}
 use Rattle.lists.proofs.Laws.{drop-zeros}
-use Rattle.outcome.specs.declared.Refusal.{Refusal}
 use Rattle.outcome.specs.declared.Refusal.the-variants.{NoSpace}
-use Rattle.outcome.specs.Outcome.{Outcome, refused, given, _>>=_}
+use Rattle.outcome.specs.Outcome.{Outcome, refused, given}
 use Rattle.outcome.proofs.Outcome.{refused-given}
 use Rattle.disk.specs.declared.Place.{Place}
-use Rattle.disk.specs.Disk.{start, bytesOf, onDisk, sectors}
+use Rattle.disk.specs.Disk.{start, bytesOf, sectors}
 use Rattle.disk.specs.Vtoc.{vtoc}
 use Rattle.disk.proofs.Places.{on-track, is-on, length-sector}
 use Rattle.files.specs.Contents.{placeBytes}
 use Rattle.amend.specs.Lines.{found}
-use Rattle.amend.specs.Search.{Spot, seek, taken, takeOne}
+use Rattle.amend.specs.Search.{Spot, takeOne}
 use Rattle.amend.specs.Save.{Part, sectorsIn, takeFor, dataFor, listsFor}
 use Rattle.allot.specs.Table.{takenIn, seekIn, Allotment, laterAt, withSpot, takeNext, takeAll, allotted, Allotted}
 use Rattle.allot.proofs.Working.{withTable, table-self, table-taken}
@@ -215,8 +214,7 @@ module _ (d : List ℕ) (size : length d ≡ 256 * sectors 16) (k m n : ℕ) (T 
       let s = ran .all′ (sym (ap (λ (a : Allotment). a .found) is-all) ∙ e) in
       let g = row-given (takeFor 16 k d) (s .0) (over d size (takeAll m T P .table)) (s .1) in
       let t : takeAll m T P .table ≡ T′ = sym (ap (λ (a : Allotment). a .table) is-all) in
-      let p : P′ ≡ takeAll m T P .places = ap (λ (a : Allotment). a .places) is-all in
-      (
+      let p : P′ ≡ takeAll m T P .places = ap (λ (a : Allotment). a .places) is-all in (
         g .0,
         g .1 ∙ ap (λ (x : List ℕ). given (g .0, put (start 16 vtoc) x d)) t,
         p ∙ zeros n P (flatMap placeBytes (s .0)) (takeAll m T P .places) blank (s .2) ∙ ap (λ (ps : List Place). padded n (flatMap placeBytes ps)) (sym (g .2)),
