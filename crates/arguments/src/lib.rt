@@ -19,15 +19,19 @@ pub const CROSSED: u8 = 4;
 
 pub const GET: u8 = 5;
 
-pub const ARCHIVE: u8 = 6;
+pub const SAVE: u8 = 6;
 
-pub const CHECK: u8 = 7;
+pub const DELETE: u8 = 7;
 
-pub const SHOW: u8 = 8;
+pub const ARCHIVE: u8 = 8;
 
-pub const NIBBLIZE: u8 = 9;
+pub const CHECK: u8 = 9;
 
-pub const DENIBBLIZE: u8 = 10;
+pub const SHOW: u8 = 10;
+
+pub const NIBBLIZE: u8 = 11;
+
+pub const DENIBBLIZE: u8 = 12;
 
 // The options.
 pub const FORCE: u8 = 1;
@@ -46,8 +50,10 @@ pub const ALL: u8 = 7;
 
 pub const EMPTY: u8 = 8;
 
+pub const OUT: u8 = 9;
+
 // `--`: what stands behind it is a word.
-const END: u8 = 9;
+const END: u8 = 10;
 
 // A word in a cell of a table: zeros behind it. A word that is longer than a cell is none of the table's, and its cell is empty.
 fn cell_of(w: &[u8]) -> [u8; 10] {
@@ -58,7 +64,7 @@ fn cell_of(w: &[u8]) -> [u8; 10] {
 
 // The number of the cell in a table, from 1 on; 0 where it has none.
 fn number_in(table: &[u8], cell: &[u8]) -> u8 {
-    for k in 0..10u8 {
+    for k in 0..12u8 {
         if lists::same(lists::part(table, 10 * (k as usize), 10), cell) {
             return k + 1;
         }
@@ -75,6 +81,8 @@ pub fn command_of(w: &[u8]) -> u8 {
           map\0\0\0\0\0\0\0\
           crossed\0\0\0\
           get\0\0\0\0\0\0\0\
+          save\0\0\0\0\0\0\
+          delete\0\0\0\0\
           archive\0\0\0\
           check\0\0\0\0\0\
           show\0\0\0\0\0\0\
@@ -98,6 +106,7 @@ fn option_of(i: usize) -> u8 {
           --svg\0\0\0\0\0\
           --all\0\0\0\0\0\
           --empty\0\0\0\
+          --out\0\0\0\0\0\
           --\0\0\0\0\0\0\0\0",
         &cell,
     )
@@ -170,6 +179,14 @@ pub fn is_dash(w: &[u8]) -> bool {
     lists::same(w, b"-")
 }
 
+// Word k is the name of the output where --out is said.
+fn out_behind(first: usize, k: usize) -> usize {
+    if has_option(first, OUT) {
+        return k;
+    }
+    0
+}
+
 // Where a command has the name of its output among its words, 0 where it has none. That of `get --all` is a folder.
 pub fn out_word(command: u8, first: usize) -> usize {
     match command {
@@ -185,6 +202,8 @@ pub fn out_word(command: u8, first: usize) -> usize {
             }
             0
         }
+        SAVE => out_behind(first, 5),
+        DELETE => out_behind(first, 3),
         ARCHIVE | NIBBLIZE | DENIBBLIZE => 2,
         _ => 0,
     }
@@ -205,6 +224,18 @@ fn wants(command: u8, first: usize) -> usize {
                 return 2;
             }
             3
+        }
+        SAVE => {
+            if has_option(first, OUT) {
+                return 5;
+            }
+            4
+        }
+        DELETE => {
+            if has_option(first, OUT) {
+                return 3;
+            }
+            2
         }
         _ => 2,
     }
@@ -293,6 +324,8 @@ pub fn usage(command: u8) -> u8 {
         GET => tell(
             b"get DISK NAME OUT [--empty] [--force] [--13 | --16]\n       linefiles get DISK --all FOLDER [--empty] [--force] [--13 | --16]",
         ),
+        SAVE => tell(b"save DISK NAME ADDRESS FILE [--out OUT [--force]]"),
+        DELETE => tell(b"delete DISK NAME [--out OUT [--force]]"),
         ARCHIVE => tell(b"archive DISK OUT [--force] [--13 | --16]"),
         CHECK => tell(b"check DISK ARCHIVE [--13 | --16]"),
         SHOW => tell(b"show ARCHIVE [--raw]"),
@@ -303,12 +336,19 @@ pub fn usage(command: u8) -> u8 {
     TROUBLE
 }
 
+// The command changes a disk.
+pub fn changes(command: u8) -> bool {
+    (command == SAVE) | (command == DELETE)
+}
+
 // The options of a command.
 fn takes(command: u8, option: u8) -> bool {
     match option {
         FORCE => (command == MAP)
-            | ((command == GET) | ((command == ARCHIVE) | (NIBBLIZE <= command))),
-        AS_13 | AS_16 => command != SHOW,
+            | ((command == GET)
+                | ((command == ARCHIVE) | (changes(command) | (NIBBLIZE <= command)))),
+        AS_13 | AS_16 => (command != SHOW) & !changes(command),
+        OUT => changes(command),
         RAW => (command == LIST) | (command == SHOW),
         JSON => (command == LIST) | (command == SURVEY),
         SVG => command == MAP,
@@ -319,7 +359,7 @@ fn takes(command: u8, option: u8) -> bool {
 
 // The first option that is said and that the command does not take, 0 where there is none.
 fn misplaced(command: u8, first: usize) -> u8 {
-    for option in 1..9u8 {
+    for option in 1..10u8 {
         if has_option(first, option) & !takes(command, option) {
             return option;
         }
@@ -336,6 +376,7 @@ fn tell_option(option: u8) {
         JSON => tell(b"--json, which list and survey do"),
         SVG => tell(b"--svg, which map does"),
         ALL => tell(b"--all, which get does"),
+        OUT => tell(b"--out, which save and delete do"),
         _ => tell(b"--empty, which get does"),
     }
 }
@@ -347,6 +388,10 @@ pub fn wrong_options(command: u8, first: usize) -> bool {
         tell(b"linefiles: this command does not take ");
         tell_option(option);
         tell(b"\n");
+        return true;
+    }
+    if (changes(command) & has_option(first, FORCE)) & !has_option(first, OUT) {
+        tell(b"linefiles: --force is for --out; without it the disk itself is replaced\n");
         return true;
     }
     if has_option(first, AS_13) & has_option(first, AS_16) {

@@ -1,9 +1,11 @@
 // The program that people run: it reads a disk, a nibble stream or an archive, calls the libraries, and prints. `./linefiles help` says what it does.
-// A program of the kit has no exit status. So with `--status` as its first argument it writes the status, a digit, to descriptor 3: ./linefiles reads it there.
+// A program of the kit has no exit status. So with `--status` as its first argument it writes the status, a digit, to descriptor 3: ./linefiles reads it there. Its
+// second argument is then `--as=`, with what is to be kept of a disk that is replaced.
 use arguments::ALL;
 use arguments::ARCHIVE;
 use arguments::CHECK;
 use arguments::CROSSED;
+use arguments::DELETE;
 use arguments::DENIBBLIZE;
 use arguments::EMPTY;
 use arguments::FORCE;
@@ -12,10 +14,13 @@ use arguments::JSON;
 use arguments::LIST;
 use arguments::MAP;
 use arguments::NIBBLIZE;
+use arguments::OUT;
 use arguments::RAW;
+use arguments::SAVE;
 use arguments::SHOW;
 use arguments::SURVEY;
 use arguments::SVG;
+use arguments::changes;
 use arguments::command_of;
 use arguments::has_long;
 use arguments::has_option;
@@ -181,6 +186,49 @@ fn nibblize(disk: &[u8], first: usize) -> u8 {
     save_word(first, 2, lists::part(&out, 0, h.length))
 }
 
+// Where a changed disk goes: the word behind --out, or where it came from. Its length.
+fn way_out(command: u8, from: &[u8], first: usize, to: &mut [u8]) -> usize {
+    if has_option(first, OUT) {
+        return word(first, out_word(command, first), to);
+    }
+    lists::copy_at(from, to, 0);
+    from.len()
+}
+
+fn save(from: &[u8], disk: &[u8], first: usize) -> u8 {
+    let mut name = io::buffer();
+    let n = word(first, 2, &mut name);
+    let mut at = io::buffer();
+    let k = word(first, 3, &mut at);
+    let mut file = io::buffer();
+    let l = word(first, 4, &mut file);
+    let mut to = io::buffer();
+    let m = way_out(SAVE, from, first, &mut to);
+    changing::save(
+        disk,
+        lists::part(&name, 0, n),
+        lists::part(&at, 0, k),
+        lists::part(&file, 0, l),
+        lists::part(&to, 0, m),
+        !has_option(first, OUT),
+        has_option(first, FORCE),
+    )
+}
+
+fn delete(from: &[u8], disk: &[u8], first: usize) -> u8 {
+    let mut name = io::buffer();
+    let n = word(first, 2, &mut name);
+    let mut to = io::buffer();
+    let m = way_out(DELETE, from, first, &mut to);
+    changing::delete(
+        disk,
+        lists::part(&name, 0, n),
+        lists::part(&to, 0, m),
+        !has_option(first, OUT),
+        has_option(first, FORCE),
+    )
+}
+
 // A command on a flat disk, which was read from `from`.
 fn on_flat(command: u8, from: &[u8], disk: &[u8], first: usize) -> u8 {
     match command {
@@ -189,6 +237,8 @@ fn on_flat(command: u8, from: &[u8], disk: &[u8], first: usize) -> u8 {
         MAP => draw_map(disk, from, first),
         CROSSED => crossed(disk),
         GET => get(disk, first),
+        SAVE => save(from, disk, first),
+        DELETE => delete(from, disk, first),
         ARCHIVE => write_archive(disk, first),
         CHECK => check(disk, first),
         NIBBLIZE => nibblize(disk, first),
@@ -308,6 +358,9 @@ fn as_flat(command: u8, from: &[u8], bytes: &[u8], first: usize) -> u8 {
 
 // A command on a disk: flat, or by its length a nibble stream. The first line says which.
 fn on_disk(command: u8, from: &[u8], bytes: &[u8], first: usize) -> u8 {
+    if changes(command) & !is_flat(bytes) {
+        return changing::not_flat(from);
+    }
     if (command == DENIBBLIZE) | !is_flat(bytes) {
         return as_stream(command, from, bytes, first);
     }
@@ -337,6 +390,22 @@ fn act(command: u8, first: usize) -> u8 {
     on_disk(command, path, bytes, first)
 }
 
+// Whether `-` stands where a changed disk cannot come from it. Then this is said.
+fn wrong_dashes(command: u8, first: usize) -> bool {
+    if !(changes(command) & has_dash(first, 1)) {
+        return false;
+    }
+    if !has_option(first, OUT) {
+        tell(b"linefiles: standard input cannot be replaced; --out OUT says where the disk goes\n");
+        return true;
+    }
+    if (command == SAVE) & has_dash(first, 4) {
+        tell(b"linefiles: disk and file cannot both be standard input\n");
+        return true;
+    }
+    false
+}
+
 fn run_command(command: u8, first: usize) -> u8 {
     if !has_words(command, first) {
         return usage(command);
@@ -346,6 +415,9 @@ fn run_command(command: u8, first: usize) -> u8 {
     }
     if (command == CHECK) & (has_dash(first, 1) & has_dash(first, 2)) {
         tell(b"linefiles: disk and archive cannot both be standard input\n");
+        return TROUBLE;
+    }
+    if wrong_dashes(command, first) {
         return TROUBLE;
     }
     act(command, first)
@@ -382,7 +454,7 @@ fn main() {
     let mut w = [0u8; 8];
     let n = os::arg(1, &mut w);
     if lists::same(&w[..n], b"--status") {
-        put_status(run(2));
+        put_status(run(3));
         return;
     }
     run(1);

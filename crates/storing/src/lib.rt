@@ -1,6 +1,8 @@
 // Files by name: one read whole into lent space, one written whole or not at all. The name `-` is standard input or standard output.
+mod kept;
 mod standing;
 
+use kept::keep;
 use libc::EEXIST;
 use libc::ENOENT;
 use libc::SEEK_END;
@@ -8,6 +10,7 @@ use libc::SEEK_SET;
 use libc::STDERR_FILENO;
 use libc::STDIN_FILENO;
 use libc::STDOUT_FILENO;
+use screen::GOOD;
 use screen::TROUBLE;
 use screen::finish;
 use screen::names::input as show_input;
@@ -16,6 +19,7 @@ use screen::say;
 use screen::sums::after;
 use screen::tell;
 use screen::text_number;
+use standing::file_path;
 use standing::folder_length;
 use standing::is_folder;
 use standing::is_link;
@@ -83,6 +87,32 @@ pub fn read_file(path: &[u8], buf: &mut [u8]) -> FileRead {
     got
 }
 
+// Reads the first bytes of a file, as many as buf holds; what is behind them is not looked at. Where it cannot be read, this is said.
+pub fn read_front(path: &[u8], buf: &mut [u8]) -> FileRead {
+    let mut fd = STDIN_FILENO;
+    if !lists::same(path, b"-") {
+        fd = os::open_read(path);
+    }
+    if fd < 0 {
+        cannot(b"read", path);
+        return not_read();
+    }
+    let n = io::read_full(fd, buf);
+    let mut none = [0u8; 0];
+    let good = 0 <= libc::read(fd, &mut none);
+    if fd != STDIN_FILENO {
+        libc::close(fd);
+    }
+    if !good {
+        cannot(b"read", path);
+        return not_read();
+    }
+    FileRead {
+        good: true,
+        length: n,
+    }
+}
+
 fn is_there(path: &[u8], what: &[u8]) {
     tell(b"linefiles: ");
     show_path(STDERR_FILENO, path);
@@ -117,6 +147,18 @@ fn fill(fd: i32, path: &[u8], bytes: &[u8]) -> bool {
         }
         cannot(b"write", path);
         return false;
+    }
+    cannot(b"write", path);
+    libc::close(fd);
+    false
+}
+
+// The same, and waits until the bytes are on the medium.
+fn fill_synced(fd: i32, path: &[u8], bytes: &[u8]) -> bool {
+    if io::write_all(fd, bytes) {
+        if libc::fsync(fd) == 0 {
+            return fill(fd, path, b"");
+        }
     }
     cannot(b"write", path);
     libc::close(fd);
@@ -258,6 +300,61 @@ pub fn write_file(path: &[u8], bytes: &[u8], force: bool) -> u8 {
         return write_forced(path, bytes);
     }
     write_new(path, bytes)
+}
+
+// Writes the file `part` with the mode and the owner that the replaced file has, as far as they are known and may be given, and gives it the name `path`.
+fn write_beside(part: &[u8], path: &[u8], bytes: &[u8]) -> bool {
+    let fd = os::create(part);
+    if fd < 0 {
+        cannot(b"write", path);
+        return false;
+    }
+    keep(fd);
+    if fill_synced(fd, path, bytes) {
+        if os::rename(part, path) == 0 {
+            return true;
+        }
+        cannot(b"write", path);
+    }
+    os::unlink(part);
+    false
+}
+
+// Writes the bytes beside the file that is open at fd, and gives them its name. Where that fails, the old file stands as it was.
+fn swap(fd: i32, path: &[u8], bytes: &[u8]) -> u8 {
+    let end = libc::lseek(fd, 0, SEEK_END);
+    if libc::ftruncate(fd, end) != 0 {
+        is_there(
+            path,
+            b" is a pipe, a device or a socket, and no file;\n  --out writes to another file\n",
+        );
+        return TROUBLE;
+    }
+    let mut name = io::buffer();
+    let n = part_name(path, &mut name);
+    if write_beside(lists::part(&name, 0, n), path, bytes) {
+        return GOOD;
+    }
+    TROUBLE
+}
+
+// Replaces a file that is there, whole or not at all: the exit status, 0 or 2. A link stays, and the file to which it leads is replaced.
+pub fn replace_file(path: &[u8], bytes: &[u8]) -> u8 {
+    let mut name = io::buffer();
+    let n = file_path(path, &mut name);
+    let file = lists::part(&name, 0, n);
+    if 3900 < n {
+        tell(b"linefiles: the name of the disk is too long\n");
+        return TROUBLE;
+    }
+    let fd = os::open_update(file);
+    if fd < 0 {
+        cannot(b"write", path);
+        return TROUBLE;
+    }
+    let status = swap(fd, file, bytes);
+    libc::close(fd);
+    status
 }
 
 // A folder to write files to, made where there is none. False where that cannot be, which is said.

@@ -35,6 +35,40 @@ pub fn is_link(path: &[u8]) -> bool {
     0 <= libc::readlink(&p, &mut text)
 }
 
+// Puts the path to which a link leads, from the link's own folder on, into `to`: its length; 0 where the path is no link.
+fn link_path(path: &[u8], to: &mut [u8]) -> usize {
+    let mut text = io::buffer();
+    let p = ended(path);
+    let got = libc::readlink(&p, &mut text);
+    if got <= 0 {
+        return 0;
+    }
+    let k = io::count(got, &text);
+    let mut n = folder_length(path);
+    if byte_at(&text, 0) == b'/' {
+        n = 0;
+    }
+    lists::copy_at(lists::part(path, 0, n), to, 0);
+    lists::copy_at(lists::part(&text, 0, k), to, n);
+    after(n, k)
+}
+
+// Puts the path of the file to which a path leads into `to`, links being followed, 40 at most: its length.
+pub fn file_path(path: &[u8], to: &mut [u8]) -> usize {
+    lists::copy_at(path, to, 0);
+    let mut n = path.len();
+    for k in 0..40u8 {
+        let mut next = io::buffer();
+        let m = link_path(lists::part(to, 0, n), &mut next);
+        if m == 0 {
+            return n;
+        }
+        lists::copy_at(lists::part(&next, 0, m), to, 0);
+        n = m;
+    }
+    n
+}
+
 // How much of a path is its folder, the last stroke with it.
 pub fn folder_length(path: &[u8]) -> usize {
     let mut n: usize = 0;

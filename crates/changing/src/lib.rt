@@ -1,0 +1,330 @@
+// A disk changed: a file saved to it or deleted from it, and the disk written.
+mod address;
+
+use address::address_of;
+use arguments::is_dash;
+use arguments::letters::unescape;
+use disk::Place;
+use disk::Sector;
+use disk::Track;
+use libc::STDERR_FILENO;
+use libc::STDOUT_FILENO;
+use lists::byte_at;
+use outcome::NAME_TAKEN;
+use outcome::NO_SPACE;
+use outcome::NOT_CLEAN;
+use outcome::NOT_ON_ROLL;
+use outcome::OFF_SIZE;
+use outcome::UNWRITABLE_NAME;
+use screen::GOOD;
+use screen::REFUSED;
+use screen::TROUBLE;
+use screen::count;
+use screen::finish;
+use screen::names;
+use screen::refusal;
+use screen::sums::more;
+use screen::tell;
+use screen::text;
+use screen::text_number;
+use storing::read_front;
+use storing::replace_file;
+use storing::write_file;
+
+// Space for a disk of either edition.
+fn disk_space() -> [u8; 143360] {
+    [0; 143360]
+}
+
+// Space for the longest catalog, 3,920 entries of 37 bytes.
+fn catalog_space() -> [u8; 145040] {
+    [0; 145040]
+}
+
+// Space for the longest file, and one byte more.
+fn data_space() -> [u8; 32769] {
+    [0; 32769]
+}
+
+// Where notes go: to standard error where the disk itself goes to standard output.
+fn notes_to(to: &[u8]) -> i32 {
+    if is_dash(to) {
+        return STDERR_FILENO;
+    }
+    STDOUT_FILENO
+}
+
+// Writes the disk: over the file from which it came, or to another.
+fn write_disk(disk: &[u8], to: &[u8], over: bool, force: bool) -> u8 {
+    if !over {
+        return write_file(to, disk, force);
+    }
+    let status = replace_file(to, disk);
+    if status == GOOD {
+        text(STDOUT_FILENO, b"replaced ");
+        names::path(STDOUT_FILENO, to);
+        text_number(STDOUT_FILENO, b", ", disk.len() as u64);
+        return finish(b" bytes\n");
+    }
+    status
+}
+
+// A byte of 80h or more stands in the name.
+fn has_high(name: &[u8]) -> bool {
+    let mut high = false;
+    for k in 0..31usize {
+        high = high | (128 <= byte_at(name, k));
+    }
+    high
+}
+
+// A byte 0 stands in the name.
+fn has_zero(name: &[u8]) -> bool {
+    let mut zero = false;
+    for k in 0..31usize {
+        zero = zero | ((k < name.len()) & (byte_at(name, k) == 0));
+    }
+    zero
+}
+
+// Why a name cannot be written.
+fn tell_name(name: &[u8]) {
+    if name.len() == 0 {
+        tell(b"it is empty");
+        return;
+    }
+    if 30 < name.len() {
+        tell(b"it has more than 30 bytes");
+        return;
+    }
+    if has_high(name) {
+        tell(b"it has a byte of 80h or more");
+        return;
+    }
+    if has_zero(name) {
+        tell(b"it has a byte 0");
+        return;
+    }
+    tell(b"it ends in a space");
+}
+
+// A sector that a save may take: the map calls it free, and its track is not 0, 17 or that of the catalog's first page.
+fn is_spare(disk: &[u8], k: u16) -> bool {
+    let track = (k / 16 % 35) as u8;
+    let p = Place {
+        track: Track(track),
+        sector: Sector((k % 16) as u8),
+    };
+    let barred = (track == 0) | ((track == 17) | (track == byte_at(disk, 69633)));
+    holders::is_free(disk, 16, p) & !barred
+}
+
+fn spare_sectors(disk: &[u8]) -> u64 {
+    let mut n: u64 = 0;
+    for k in 0..560u16 {
+        n = more(n, is_spare(disk, k));
+    }
+    n
+}
+
+// Every line of the catalog is in use.
+fn is_full(disk: &[u8]) -> bool {
+    let mut out = catalog_space();
+    let c = catalog::parse_catalogs(disk, &mut out);
+    c.handed.length / 37 == 7 * (c.pages as usize % 1000)
+}
+
+// Data sectors and lists for a file of so many bytes.
+fn data_sectors(size: usize) -> u64 {
+    (size as u64 % 65536 + 259) / 256
+}
+
+fn list_sectors(size: usize) -> u64 {
+    (data_sectors(size) % 1000 + 121) / 122
+}
+
+// Which of the three is missing: bytes, lines, sectors.
+fn tell_space(disk: &[u8], size: usize) {
+    if 32768 < size {
+        tell(b"the file has more than 32768 bytes");
+        return;
+    }
+    if is_full(disk) {
+        tell(b"no line of the catalog is unused or deleted");
+        return;
+    }
+    tell(b"the file takes ");
+    count(
+        STDERR_FILENO,
+        data_sectors(size),
+        b"data sector",
+        b"data sectors",
+    );
+    tell(b" and ");
+    count(STDERR_FILENO, list_sectors(size), b"list", b"lists");
+    text_number(
+        STDERR_FILENO,
+        b";\n  of the sectors that are free, ",
+        spare_sectors(disk),
+    );
+    tell(b" may be taken");
+}
+
+// Says why a disk is not changed.
+fn tell_why(disk: &[u8], why: u8, shown: &[u8], name: &[u8], size: usize) {
+    tell(b"\n  ");
+    match why {
+        NOT_CLEAN => tell(b"linefiles crossed shows which sectors are shared, or held but free"),
+        UNWRITABLE_NAME => tell_name(name),
+        NAME_TAKEN => {
+            tell(b"a file is named ");
+            names::path(STDERR_FILENO, shown);
+            tell(b"; linefiles delete deletes it");
+        }
+        NO_SPACE => tell_space(disk, size),
+        _ => {
+            tell(b"no file is named ");
+            names::path(STDERR_FILENO, shown);
+        }
+    }
+    tell(b"\n");
+}
+
+// Whether a disk has 13 sectors a track, which is refused as 1. Then this is said.
+fn is_older(disk: &[u8]) -> bool {
+    if disk.len() == 143360 {
+        return false;
+    }
+    refusal(STDERR_FILENO, OFF_SIZE);
+    tell(b"\n  disks of 13 sectors a track are read, not changed\n");
+    true
+}
+
+fn refuse(disk: &[u8], why: u8, shown: &[u8], name: &[u8], size: usize) -> u8 {
+    if why < 7 {
+        return file_walk::refuse(disk, why);
+    }
+    refusal(STDERR_FILENO, why);
+    tell_why(disk, why, shown, name, size);
+    REFUSED
+}
+
+// What was saved.
+fn tell_saved(fd: i32, shown: &[u8], at: u16, size: usize) {
+    text(fd, b"saved ");
+    names::path(fd, shown);
+    text_number(fd, b" at address ", at as u64);
+    text(fd, b": ");
+    count(fd, size as u64, b"byte", b"bytes");
+    text(fd, b", ");
+    count(fd, data_sectors(size), b"data sector", b"data sectors");
+    text(fd, b", ");
+    count(fd, list_sectors(size), b"list", b"lists");
+    text(fd, b"\n");
+}
+
+// A copy of the disk with a file saved to it: the number.
+fn save_to(image: &mut [u8], disk: &[u8], name: &[u8], at: u16, data: &[u8]) -> u8 {
+    lists::copy_at(disk, image, 0);
+    saving::save(image, name, at, data)
+}
+
+// A copy of the disk with a file deleted from it: the number.
+fn delete_from(image: &mut [u8], disk: &[u8], name: &[u8]) -> u8 {
+    lists::copy_at(disk, image, 0);
+    saving::delete(image, name)
+}
+
+// Saves the bytes to the disk, and writes it.
+fn save_bytes(
+    disk: &[u8],
+    shown: &[u8],
+    at: u16,
+    data: &[u8],
+    to: &[u8],
+    over: bool,
+    force: bool,
+) -> u8 {
+    let mut wanted = [0u8; 31];
+    let k = unescape(shown, &mut wanted);
+    let name = lists::part(&wanted, 0, k);
+    let mut image = disk_space();
+    let why = save_to(&mut image, disk, name, at, data);
+    if why != 0 {
+        return refuse(disk, why, shown, name, data.len());
+    }
+    let status = write_disk(&image, to, over, force);
+    if status == GOOD {
+        tell_saved(notes_to(to), shown, at, data.len());
+    }
+    status
+}
+
+// Saves a file to a disk; the disk goes to `to`, over the file there where that is said.
+pub fn save(
+    disk: &[u8],
+    shown: &[u8],
+    at: &[u8],
+    file: &[u8],
+    to: &[u8],
+    over: bool,
+    force: bool,
+) -> u8 {
+    if is_older(disk) {
+        return REFUSED;
+    }
+    let a = address_of(at);
+    if !a.good {
+        tell(b"linefiles: ");
+        names::path(STDERR_FILENO, at);
+        tell(b" is no address; one is 0 to 65535, or $0 to $FFFF\n");
+        return TROUBLE;
+    }
+    let mut data = data_space();
+    let l = read_front(file, &mut data);
+    if !l.good {
+        return TROUBLE;
+    }
+    save_bytes(
+        disk,
+        shown,
+        a.value,
+        lists::part(&data, 0, l.length),
+        to,
+        over,
+        force,
+    )
+}
+
+// Deletes a file from a disk; the disk goes to `to`, over the file there where that is said.
+pub fn delete(disk: &[u8], shown: &[u8], to: &[u8], over: bool, force: bool) -> u8 {
+    if is_older(disk) {
+        return REFUSED;
+    }
+    let mut wanted = [0u8; 31];
+    let k = unescape(shown, &mut wanted);
+    let name = lists::part(&wanted, 0, k);
+    let mut image = disk_space();
+    let why = delete_from(&mut image, disk, name);
+    if why != 0 {
+        return refuse(disk, why, shown, name, 0);
+    }
+    let status = write_disk(&image, to, over, force);
+    if status == GOOD {
+        let fd = notes_to(to);
+        text(fd, b"deleted ");
+        names::path(fd, shown);
+        text(fd, b"\n");
+    }
+    status
+}
+
+// Says that the bytes that were read are no flat disk, and what to do.
+pub fn not_flat(from: &[u8]) -> u8 {
+    tell(b"linefiles: ");
+    names::input(STDERR_FILENO, from);
+    tell(
+        b" is no flat disk, and only a flat disk is changed;\n  linefiles denibblize makes one of a nibble stream, and nibblize a stream again\n",
+    );
+    TROUBLE
+}
