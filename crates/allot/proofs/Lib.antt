@@ -3,3 +3,5 @@ pub mod Marking
 pub mod Seeking
 pub mod Spots
 pub mod Taking
+pub mod Flat
+pub mod Allots

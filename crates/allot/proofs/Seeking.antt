@@ -3,8 +3,7 @@ use mathlib.Core.Path.{_≡_, refl, sym, ap, _∙_}
 use mathlib.Core.Bool.{Bool, true, false, cond, not, _&&_}
 use mathlib.Core.List.{List, [], _∷_, _++_, map, flatMap}
 use mathlib.Core.Option.{Option, none, some}
-use Prim.Native.Nat.{ℕ, zero, suc, _+_, _*_, _-_, _/_, _%_, _^_, _<_, _≤_}
-use native.Mathlib.Numerals.{add-one}
+use Prim.Native.Nat.{ℕ, zero, suc, _+_, _-_, _/_, _%_, _^_, _<_, _≤_}
 use native.Mathlib.Omega.{arith}
 use lib.ListN.{getD}
 use lib.Dec.{eqb, leb}
@@ -17,7 +16,7 @@ use Rattle.lists.proofs.Chunks.{flatMap-append}
 use Rattle.disk.specs.Disk.{place}
 use Rattle.holders.specs.Holders.{bit}
 use Rattle.amend.specs.Lines.{firstOf}
-use Rattle.amend.specs.Search.{Visit, Spot, upFrom, downFrom, toEdge, opposite, route, directionOf, trackOf, spotsOf}
+use Rattle.amend.specs.Search.{Spot, upFrom, downFrom, toEdge, opposite, route, directionOf, trackOf, spotsOf}
 use Rattle.allot.specs.declared.Found.{Found}
 use Rattle.allot.specs.Table.{mapIn, openIn, takableIn, seekIn}
 use Rattle.allot.specs.Steps.{topOf, legIn, foundAt, nothing, asFound, Topped, Legged, Sought}
@@ -67,12 +66,13 @@ unfolding takableIn
 test-is T later t w k s i = rw (i .opened, i .word) refl
 
 pub top-hit : (T : List ℕ) (later : Bool) (t w k : ℕ) (c : Bool) → Topping T later t w k → 0 < k → c ≡ (eqb (bit (k - 1) w) 1 && not (later && eqb (k - 1) 0)) → c ≡ true
-    → Topped T later t k
+    → Topped T later t (k - 1 + 1)
 unfolding topOf
 top-hit T later t w zero c i h e z = absurd (omega arith)
 top-hit T later t w (suc k) c i h e z =
     let q : takableIn T later (place t k) ≡ true = test-is T later t w (suc k) k i ∙ sym (rw (one-less k) at e) ∙ z in
-    record { is = (rw q refl) ∙ i .rest }
+    let n : suc k - 1 + 1 ≡ suc k = omega arith in
+    record { is = n ∙ (rw q refl) ∙ i .rest }
 
 pub top-miss : (T : List ℕ) (later : Bool) (t w k : ℕ) (c : Bool) → Topping T later t w k → 0 < k → c ≡ (eqb (bit (k - 1) w) 1 && not (later && eqb (k - 1) 0)) → c ≡ false
     → Topping T later t w (k - 1)

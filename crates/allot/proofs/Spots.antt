@@ -1,14 +1,13 @@
 -- The search on a disk is the search in its VTOC, and what it finds is a sector of the disk. Assumes nothing.
-use mathlib.Core.Path.{_≡_, refl, sym, ap, _∙_}
-use mathlib.Core.Bool.{Bool, true, false, cond, not, _&&_}
-use mathlib.Core.List.{List, [], _∷_, flatMap}
+use mathlib.Core.Path.{_≡_, refl, ap}
+use mathlib.Core.Bool.{Bool, true, false, cond, _&&_}
+use mathlib.Core.List.{List, flatMap}
 use mathlib.Core.Option.{Option, none, some}
-use Prim.Native.Nat.{ℕ, _+_, _*_, _-_, _<_, _≤_}
-use native.Mathlib.Nat.{add-zero}
+use Prim.Native.Nat.{ℕ, _+_, _*_, _-_, _<_}
 use native.Mathlib.Omega.{arith}
 use lib.ListN.{length, getD}
 use lib.Dec.{eqb, ltb, leb}
-use borrow.Author.Tests.{ltb-true, leb-true}
+use borrow.Author.Tests.{leb-true}
 use Rattle.lists.specs.Every.{Every}
 use Rattle.lists.specs.Every
 use Rattle.lists.specs.Fill.{tab, below}
@@ -20,11 +19,10 @@ use Rattle.outcome.specs.declared.Refusal.the-variants.{NoSpace}
 use Rattle.disk.specs.declared.Place.{Place}
 use Rattle.disk.specs.Disk.{onDisk, sectors}
 use Rattle.disk.proofs.Places.{on-track}
-use Rattle.holders.specs.Holders.{bit}
 use Rattle.amend.specs.Lines.{firstOf, found}
-use Rattle.amend.specs.Search.{Visit, Spot, upFrom, downFrom, toEdge, opposite, route, directionOf, trackOf, spotsOf, spots, openTrack, takable, seek}
+use Rattle.amend.specs.Search.{Visit, Spot, upFrom, downFrom, toEdge, route, directionOf, trackOf, spotsOf, spots, openTrack, takable, seek}
 use Rattle.amend.proofs.Seeks.{first-found}
-use Rattle.allot.specs.Table.{mapIn, openIn, takableIn, seekIn}
+use Rattle.allot.specs.Table.{openIn, takableIn, seekIn}
 use Rattle.allot.proofs.Working.{withTable, table-byte, table-free}
 
 -- ---- the sectors of a route are on the disk

@@ -1,13 +1,13 @@
 -- Sectors taken in a copy of the VTOC, one after the other, as code does it. Assumes nothing.
 use mathlib.Core.Path.{_≡_, refl, sym, ap, _∙_}
-use mathlib.Core.Bool.{Bool, true, false, cond, not, _&&_}
+use mathlib.Core.Bool.{Bool, true, false, not, _&&_}
 use mathlib.Core.List.{List, [], _∷_}
 use mathlib.Core.Option.{Option, none, some}
 use Prim.Native.Nat.{ℕ, zero, suc, _+_, _*_, _/_, _%_, _^_, _<_, _≤_}
 use native.Mathlib.Numerals.{add-one}
 use native.Mathlib.Omega.{arith}
 use lib.ListN.{length}
-use lib.Dec.{eqb, leb}
+use lib.Dec.{eqb}
 use borrow.Author.Needs.{needs}
 use borrow.Author.Tests.{eq-eqb, ne-eqb, le-leb, lt-leb, not-true, not-false}
 use Rattle.lists.specs.Fill.{put, placed}
@@ -117,14 +117,14 @@ take-more m T₀ P₀ i T P T′ P′ b q t h k f e p =
     }
 
 -- where one was not found, all is as it was then
-stays : (T P : List ℕ) (m i : ℕ) (a : Allotment) → i ≤ m → takeAll i T P ≡ a → a .found ≡ false → takeAll m T P ≡ a
+pub stays : (T P : List ℕ) (m i : ℕ) (a : Allotment) → i ≤ m → takeAll i T P ≡ a → a .found ≡ false → takeAll m T P ≡ a
 unfolding takeAll
 stays T P zero i a h e f = let z : i ≡ 0 = omega arith in rw z at e
 stays T P (suc m) i a h e f =
     by-lt m i (λ l. let z : i ≡ suc m = omega arith in rw z at e)
     (λ l. ap (takeNext m) (stays T P m i a l e f) ∙ rw f refl)
 
-all-is : (m : ℕ) (T P : List ℕ) → length T ≡ 256 → 2 * m ≤ length P → takeAll m T P ≡ allotted m T P
+pub all-is : (m : ℕ) (T P : List ℕ) → length T ≡ 256 → 2 * m ≤ length P → takeAll m T P ≡ allotted m T P
 unfolding allotted
 all-is m T P l h = rw (eq-eqb _ _ l, le-leb (2 * m) (length P) h) refl
 

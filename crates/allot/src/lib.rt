@@ -98,8 +98,9 @@ fn top_sector(table: &[u8], later: bool, t: u8) -> u8
     let w = map_of(table, t);
     let mut k: u8 = 16;
     while 0 < k {
-        if can_take(w, k - 1, later) {
-            return k;
+        let s = k - 1;
+        if can_take(w, s, later) {
+            return s + 1;
         }
         k -= 1;
     }
@@ -193,7 +194,8 @@ fn seek(table: &[u8], later: bool) -> Found
     ensures { λ r. ⌜ Sought (now (table .entry)) later r ⌝ }
 {
     let up = byte_at(table, 49) != 255;
-    let first = leg(table, later, up, last_track(byte_at(table, 48)));
+    let last = last_track(byte_at(table, 48));
+    let first = leg(table, later, up, last);
     if first.found {
         return first;
     }

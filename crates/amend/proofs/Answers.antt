@@ -116,7 +116,7 @@ module _ (n : ℕ) (d : List ℕ) (r : Reading n d) (tidy-is : tidy n d ≡ give
 
   module _ (name : List ℕ) (address : ℕ) (bytes : List ℕ) where
     -- a save, its disk being tidy
-    save-is : saved n d name address bytes
+    pub save-is : saved n d name address bytes
         ≡ (require (savable name) UnwritableName >> require (not (any (holdsName name) (r .ls))) NameTaken >> stored n d name address bytes)
     unfolding saved
     save-is = rw (tidy-is, any-present name (r .ls)) refl
@@ -165,7 +165,7 @@ module _ (n : ℕ) (d : List ℕ) (r : Reading n d) (tidy-is : tidy n d ≡ give
             let k = deletes x (p .u) (both-true (inUse d x) _ (s .4) .0) (p .holdsX) in
             inl (any-line ∙ ap (any (isLine n d name)) (s .2) ∙ any-here (isLine n d name) (s .0) x (s .1) (s .4), x, refl, k .0, k .1)
 
-    delete-is : deleted n d name ≡ (require (savable name) UnwritableName >> (lineOf n d name >>= λ x. deletedAt n d x))
+    pub delete-is : deleted n d name ≡ (require (savable name) UnwritableName >> (lineOf n d name >>= λ x. deletedAt n d x))
     unfolding deleted
     delete-is = rw tidy-is refl
 

@@ -1,3 +1,5 @@
 pub mod Tidy
 pub mod Names
 pub mod Looks
+pub mod Freeing
+pub mod Calls

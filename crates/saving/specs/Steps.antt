@@ -3,15 +3,17 @@ use mathlib.Core.Path.{_≡_}
 use mathlib.Core.Bool.{Bool, true, false, cond, not, _&&_}
 use mathlib.Core.List.{List, [], _∷_, flatMap, foldl}
 use mathlib.Core.Option.{Option, none, some}
-use Prim.Native.Nat.{ℕ, zero, suc, _+_, _*_}
+use Prim.Native.Nat.{ℕ, zero, suc, _+_, _*_, _≤_}
+use lib.ListN.{length}
 use Rattle.outcome.specs.Outcome.{given}
 use Rattle.disk.specs.declared.Place.{Place}
 use Rattle.disk.specs.Disk.{start, bytesOf}
 use Rattle.disk.specs.Vtoc.{vtoc}
 use Rattle.catalog.specs.Catalog.{entryFrom, pages}
 use Rattle.files.specs.Contents.{listWalk}
-use Rattle.holders.specs.Holders.{withPairs}
+use Rattle.holders.specs.Holders.{withPairs, sectorsOf}
 use Rattle.amend.specs.Lines.{firstOf, lastOf, isNamed, inUse, starts}
+use Rattle.amend.specs.Save.{deletedAt}
 use Rattle.allot.specs.Table.{markOn}
 use Rattle.saving.specs.declared.Sight.{Sight}
 
@@ -100,3 +102,15 @@ pub record ListsFreed (d : List ℕ) (p : Place) (before after : List ℕ) : Typ
 -- a copy of the VTOC was made
 pub record Copied (d r : List ℕ) : Type 0 where
   pub is : r ≡ bytesOf 16 d vtoc
+
+-- ---- the ends of the calls
+-- the line from x on lies on the disk, and the sectors of its entry are given
+pub record Erasable (d : List ℕ) (x : ℕ) : Type 0 where
+  pub size : length d ≡ 143360
+  pub fits : x + 35 ≤ length d
+  pub places : List Place
+  pub is : sectorsOf 16 d (entryFrom d x) ≡ given places
+
+-- it was deleted
+pub record Erased (d : List ℕ) (x : ℕ) (after : List ℕ) : Type 0 where
+  pub is : deletedAt 16 d x ≡ given after

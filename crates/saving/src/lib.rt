@@ -1,11 +1,16 @@
 // Saving and deleting on a flat disk: Req 09. Not of the Rust.
 ghost use mathlib.Core.Path.{_≡_};
 ghost use mathlib.Core.Bool.{false};
-ghost use Prim.Native.Nat.{_<_};
+ghost use lib.ListN.{length};
 ghost use Rattle.outcome.specs.Outcome.{number};
 ghost use Rattle.lists.specs.Select.{among};
+ghost use Rattle.files.specs.Contents.{pairsOf};
 ghost use Rattle.amend.specs.Lines.{savable, tidy};
-ghost use Rattle.saving.specs.Steps.{LineSeen, PageSeen, Seen, Paged};
+ghost use Rattle.amend.specs.Save.{deleted};
+ghost use Rattle.saving.specs.Saving.{Amended};
+ghost use Rattle.saving.specs.Steps.{LineSeen, PageSeen, Seen, Paged, PairsFreed, ListFreed, Linked, ListsFreed, Copied, Erasable, Erased};
+use allot::mark_sector;
+use catalog::entry_list;
 use catalog::entry_start;
 use catalog::first_page;
 use catalog::last_page;
@@ -13,11 +18,18 @@ use catalog::valid_file;
 use disk::Place;
 use disk::chain_budget;
 use disk::link_of;
+use files::MAX_PAIRS;
 use files::has_name;
+use files::last_list;
+use files::parse_track_sector_pair;
 use holders::holders;
 use lists::byte_at;
+use lists::copy_at;
+use lists::part;
 use outcome::NOT_CLEAN;
+use outcome::NOT_ON_ROLL;
 use outcome::OFF_SIZE;
+use outcome::UNWRITABLE_NAME;
 use records::writable_name;
 
 // What a look along the lines has found: the last line of a name, and the first that is not in use.
@@ -142,4 +154,88 @@ fn look(disk: &[u8], name: &[u8]) -> Sight
         k += 1;
     }
     s
+}
+
+// Calls the pairs of a list free.
+fn free_pairs(disk: &[u8], p: Place, table: &mut [u8])
+    ensures { λ _. ⌜ PairsFreed (pairsOf 16 (now (disk .entry)) p) (now (table .entry)) (now (table .exit)) ⌝ }
+{
+    let mut i: u8 = 0;
+    while i < MAX_PAIRS {
+        let q = parse_track_sector_pair(disk, 16, p, i);
+        if q.track.0 == 0 {
+            return;
+        }
+        mark_sector(table, q, true);
+        i += 1;
+    }
+}
+
+// Calls a list and its pairs free.
+fn free_list(disk: &[u8], p: Place, table: &mut [u8])
+    ensures { λ _. ⌜ ListFreed (now (disk .entry)) p (now (table .entry)) (now (table .exit)) ⌝ }
+{
+    mark_sector(table, p, true);
+    free_pairs(disk, p, table);
+}
+
+// Calls the lists from `first` on and their pairs free, these having been followed.
+fn free_lists(disk: &[u8], first: Place, table: &mut [u8])
+    requires { ⌜ Linked (now disk) first ⌝ }
+    ensures { λ _. ⌜ ListsFreed (now (disk .entry)) first (now (table .entry)) (now (table .exit)) ⌝ }
+{
+    let most = chain_budget(16);
+    let mut p = first;
+    let mut k: u16 = 0;
+    while k < most {
+        free_list(disk, p, table);
+        if last_list(disk, 16, p) {
+            return;
+        }
+        p = link_of(disk, 16, p);
+        k += 1;
+    }
+}
+
+// A copy of the VTOC.
+fn vtoc_copy(disk: &[u8]) -> [u8; 256]
+    requires { ⌜ length (now disk) ≡ 143360 ⌝ }
+    ensures { λ r. ⌜ Copied (now (disk .entry)) r ⌝ }
+{
+    let mut table = [0u8; 256];
+    copy_at(part(disk, 69632, 256), &mut table, 0);
+    table
+}
+
+// Deletes the line from x on: its lists and data are called free, its list track is FFh, and the old one stands in the name's last byte.
+fn erase(disk: &mut [u8], x: usize)
+    requires { ⌜ Erasable (now disk) x ⌝ }
+    ensures { λ _. ⌜ Erased (now (disk .entry)) x (now (disk .exit)) ⌝ }
+{
+    let mut table = vtoc_copy(disk);
+    free_lists(disk, entry_list(disk, x), &mut table);
+    let old = [byte_at(disk, x)];
+    let gone = [255u8];
+    copy_at(&table, disk, 69632);
+    copy_at(&gone, disk, x);
+    copy_at(&old, disk, x + 32);
+}
+
+// Deletes the last entry of the name, locked or not; refusals 1 to 6, 20, 14, 18.
+pub fn delete(disk: &mut [u8], name: &[u8]) -> u8
+    ensures { λ r. ⌜ Amended (deleted 16 (now (disk .entry)) (now (name .entry))) (now (disk .entry)) (now (disk .exit)) r ⌝ }
+{
+    let number = tidy_refusal(disk);
+    if number != 0 {
+        return number;
+    }
+    if !savable_name(name) {
+        return UNWRITABLE_NAME;
+    }
+    let s = look(disk, name);
+    if !s.named {
+        return NOT_ON_ROLL;
+    }
+    erase(disk, s.line);
+    0
 }

@@ -19,8 +19,9 @@ top-sector-spec =
     (λ c. search tops)  -- returns
     (λ c κs. search tops)  -- map-of-requires
     (λ c. search tops)  -- loop-holds
-    (λ c. search tops)  -- sub-can-take
+    (λ c. search tops)  -- sub-s
     (λ c κs. search tops)  -- can-take-requires
+    (λ c. search tops)  -- add-result
     (λ c. search tops)  -- returns-2
     (λ c. search tops)  -- sub-k
     (λ c. search tops)  -- loop-less
