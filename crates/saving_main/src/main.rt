@@ -1,7 +1,7 @@
 // Saves and deletes on trial disks: document 02, Req 09. Standard input is a script, a line of six bytes in hexadecimal for each step. The head of laying has the steps
-// that lay the disks, 00 to 02 and 15. There are a name of 64 bytes at most and 40,000 bytes of data at hand. KK is an edition, 0D or 10, or 0F: the disk of 16 sectors
+// that lay the disks, 00 to 02 and 15. There are a name of 63 bytes at most and 40,000 bytes of data at hand. KK is an edition, 0D or 10, or 0F: the disk of 16 sectors
 // a track without its last byte. AABB and NNNN are numbers, the high byte first; what is not named is 00:
-//     20 NN VV             the name has NN bytes, 63 at most, each of them VV
+//     20 NN VV             the name has NN bytes, each of them VV
 //     21 II AA BB CC DD    put AA, BB, CC, DD at bytes II, II + 1, II + 2, II + 3 of the name
 //     22 VV AA BB          the data are VV, VV + AA, VV + 2 AA and so on, at each 256th byte BB more
 //     23 TT UU AA BB       map bytes 0 and 1 of the tracks TT to UU of the disk of 16 sectors a track are AA, BB
