@@ -1,42 +1,52 @@
 -- What the tests of a save and a delete tell, one after the other. Assumes nothing.
 use mathlib.Core.Path.{_≡_, refl, sym, ap, _∙_}
 use mathlib.Core.Bool.{Bool, true, false, not}
-use mathlib.Core.List.{List, [], _∷_, _++_, flatMap}
+use mathlib.Core.List.{List, [], _∷_, _++_, flatMap, append-nil}
 use mathlib.Core.Option.{Option, none, some}
 use Prim.Native.Nat.{ℕ, _+_, _*_, _<_, _≤_, _^_}
 use native.Mathlib.Omega.{arith}
-use lib.ListN.{length, getD}
-use borrow.Author.Tests.{not-true, not-false}
+use lib.ListN.{length, getD, replicate}
+use borrow.Author.Tests.{lt-leb, le-leb, not-true, not-false}
 use borrow.Author.Needs.{needs}
-use Rattle.lists.specs.Fill.{put, placed}
+use Rattle.lists.specs.Fill.{put, placed, padded}
 use Rattle.lists.specs.Select.{all, any}
 use Rattle.lists.proofs.Split.{both-true}
 use Rattle.lists.proofs.Put.{placed-put}
+use Rattle.lists.proofs.Every.{every-imp}
 use Rattle.outcome.specs.declared.Refusal.{Refusal}
 use Rattle.outcome.specs.declared.Refusal.the-variants.{UnwritableName, NotOnRoll, NameTaken, NoSpace}
 use Rattle.outcome.specs.Refusal.{code}
-use Rattle.outcome.specs.Outcome.{Outcome, refused, given, _>>=_, _>>_, require, number}
+use Rattle.outcome.specs.Outcome.{Outcome, refused, given, _>>=_, _>>_, require, number, Hands}
+use Rattle.outcome.specs.declared.Handed.{Handed}
 use Rattle.outcome.proofs.Outcome.{number-0}
 use Rattle.disk.specs.declared.Place.{Place}
-use Rattle.disk.specs.Disk.{bytesOf, onDisk, sectors}
+use Rattle.disk.specs.Disk.{place, start, bytesOf, onDisk, sectors}
 use Rattle.disk.specs.Vtoc.{vtoc}
 use Rattle.catalog.specs.Catalog.{entryFrom, pages}
-use Rattle.files.specs.Contents.{Contents, contents, listWalk, lists, pairsOf}
+use Rattle.files.specs.Contents.{Contents, contents, listWalk, lists, pairsOf, placeBytes}
+use Rattle.records.specs.Records.{entryRecord, entryWritten}
+use Rattle.records.proofs.Entries.{length-record}
 use Rattle.holders.specs.Holders.{withPairs, sectorsOf}
 use Rattle.holders.proofs.Refusals.{sectors-given, sectors-on}
 use Rattle.amend.specs.Lines.{firstOf, lastOf, inUse, savable, starts, lineOf, openLine, tidy, holdsName}
 use Rattle.amend.specs.Search.{freed}
-use Rattle.amend.specs.Save.{stored, saved, savedAt, deleted, deletedAt}
+use Rattle.amend.specs.Save.{Part, dataFor, listsFor, takeFor, firstList, sectorsIn, dataOf, written, fileWrites, stored, saved, savedAt, deleted, deletedAt}
 use Rattle.amend.specs.Amending.{kept}
 use Rattle.amend.proofs.Lines.{lineHolds}
+use Rattle.amend.proofs.Takes.{Taker, Taking, Shaped, shaped-data, take-for}
+use Rattle.amend.proofs.Saves.{savable-parts}
 use Rattle.amend.proofs.Reading.{Reading, contents-size, tidy-given, tidy-reading, reading-tidy}
 use Rattle.amend.proofs.Kept.{parts-of}
 use Rattle.amend.proofs.Mid.{line-fits}
-use Rattle.amend.proofs.Listed.{any-here, last-split, last-none, line-name, each-any}
+use Rattle.amend.proofs.Listed.{any-here, first-split, last-split, last-none, line-name, each-any}
 use Rattle.amend.proofs.Answers.{save-is, delete-is}
+use Rattle.allot.specs.Table.{Allotted}
+use Rattle.allot.proofs.Allots.{places-fit, allotted-none, allotted-all}
+use Rattle.filing.specs.Filing.{placeIn, filed, Filed}
+use Rattle.filing.proofs.Filed.{filed-long, filed-written, first-place}
 use Rattle.saving.specs.declared.Sight.{Sight}
 use Rattle.saving.specs.Saving.{Amended}
-use Rattle.saving.specs.Steps.{isSome, startOr0, bears, idle, sightOf, Seen, Paged, frees, Linked, ListsFreed, Copied, Erasable, Erased}
+use Rattle.saving.specs.Steps.{isSome, startOr0, bears, idle, sightOf, Seen, Paged, frees, Linked, ListsFreed, Copied, Erasable, Erased, Storable, EntryPut, FilePut}
 use Rattle.saving.proofs.Freeing.{length-frees, vtoc-long, copy-freed}
 
 -- an option that is there, and one that is not
@@ -55,6 +65,9 @@ refuses d r e = record { is = sym (ap number e); disk = sym (ap (kept d) e) }
 -- .. and one that is not leaves what it gives
 accepts : {o : Outcome (List ℕ)} (d e : List ℕ) → o ≡ given e → Amended o d e 0
 accepts d e q = record { is = sym (ap number q); disk = sym (ap (kept d) q) }
+
+same-call : {o p : Outcome (List ℕ)} {d after : List ℕ} {r : ℕ} → o ≡ p → Amended p d after r → Amended o d after r
+same-call {o} {p} {d} e a = record { is = a .is ∙ sym (ap number e); disk = a .disk ∙ sym (ap (kept d) e) }
 
 module _ (d : List ℕ) (n : ℕ) (e : n ≡ number (tidy 16 d)) where
   -- ---- a disk that is not tidy
@@ -142,7 +155,56 @@ module _ (d : List ℕ) (n : ℕ) (e : n ≡ number (tidy 16 d)) where
               is = sym (rw t refl) ∙ p .holdsX;
             }
 
+        -- ---- a save
+        module _ (w : Bool) (f : w ≡ savable name) (y : w ≡ true) (address : ℕ) (bytes : List ℕ) where
+          saved-is : saved 16 d name address bytes
+              ≡ (require (savable name) UnwritableName >> require (not (any (holdsName name) (reads .ls))) NameTaken >> stored 16 d name address bytes)
+          saved-is = save-is 16 d reads (reading-tidy 16 d reads) name address bytes
+
+          any-is : any (holdsName name) (reads .ls) ≡ any (bears d name) every
+          any-is = each-any 16 d (holdsName name) (bears d name) (line-name 16 d name) every (reads .ls) (reads .files)
+
+          pub save-taken : s .named ≡ true → Amended (saved 16 d name address bytes) d d 22
+          save-taken h =
+              let l = last-split (bears d name) every (s .line) (last-is h) in
+              let q : any (holdsName name) (reads .ls) ≡ true = any-is ∙ ap (any (bears d name)) (l .2) ∙ any-here (bears d name) (l .0) (s .line) (l .1) (l .4) in
+              refuses d NameTaken (saved-is ∙ rw (← f, y, q) refl)
+
+          module _ (h : s .named ≡ false) where
+            new-is : saved 16 d name address bytes ≡ stored 16 d name address bytes
+            new-is =
+                let q : any (holdsName name) (reads .ls) ≡ false = any-is ∙ last-none (bears d name) every (last-not h) in
+                saved-is ∙ rw (← f, y, q) refl
+
+            pub save-long : 32768 < length bytes → Amended (saved 16 d name address bytes) d d 21
+            save-long l = refuses d NoSpace (new-is ∙ rw (lt-leb (length bytes) 32768 l) refl)
+
+            pub save-full : length bytes ≤ 32768 → s .vacant ≡ false → Amended (saved 16 d name address bytes) d d 21
+            unfolding openLine
+            save-full l v = refuses d NoSpace (new-is ∙ rw (le-leb (length bytes) 32768 l, reads .paged, first-not v) refl)
+
+            pub save-stored : (after : List ℕ) (r : ℕ) → Amended (savedAt 16 d (s .room) name address bytes) d after r → length bytes ≤ 32768 → s .vacant ≡ true
+                → Amended (saved 16 d name address bytes) d after r
+            unfolding openLine
+            save-stored after r a l v = same-call (new-is ∙ rw (le-leb (length bytes) 32768 l, reads .paged, first-is v) refl) a
+
+          pub save-storable : length bytes ≤ 32768 → s .vacant ≡ true → Storable d (s .room) name bytes
+          save-storable l v =
+              let g = first-split (idle d) every (s .room) (first-is v) in
+              record {
+                size = tidy-long;
+                fits = line-fits 16 (omega arith) d tidy-long reads (g .0) (s .room) (g .1) (g .2);
+                named = sym f ∙ y;
+                short = l;
+              }
+
+      pub save-unwritable : (w : Bool) (address : ℕ) (bytes : List ℕ) → w ≡ savable name → w ≡ false → Amended (saved 16 d name address bytes) d d 14
+      save-unwritable w address bytes f h =
+          refuses d UnwritableName (save-is 16 d reads (reading-tidy 16 d reads) name address bytes ∙ rw (← f, h) refl)
+
 pub ruleset deletes = (delete-refused, tidy-long, tidy-paged, delete-unwritable, delete-missing, delete-there, erase-this, not-true, not-false, needs)
+
+pub ruleset saves = (save-refused, tidy-long, tidy-paged, save-unwritable, save-taken, save-long, save-full, save-stored, save-storable, not-true, not-false, needs)
 
 -- ---- a line deleted
 module _ (d : List ℕ) (x : ℕ) (h : Erasable d x) where
@@ -189,3 +251,89 @@ module _ (d : List ℕ) (x : ℕ) (h : Erasable d x) where
         record { is = rw (h .is) (ap given (sym q₃)) }
 
 pub ruleset erases = (erase-long, erase-fits, erase-linked, erase-done, needs)
+
+-- ---- a file stored
+-- how many sectors it takes
+pub sectors-small : (k : ℕ) → k ≤ 32768 → listsFor (dataFor k) + dataFor k ≤ 131
+sectors-small k h = omega arith
+
+pub ruleset counts = (sectors-small, needs)
+
+-- its entry
+made-is : (p : Place) (name : List ℕ) (count : ℕ) (out : List ℕ) (r : Handed) → Hands (entryWritten p 4 false name count) (replicate 35 0) out r
+    → savable name ≡ true → out ≡ entryRecord p 4 false name count
+unfolding entryWritten
+made-is p name count out r h w =
+    let l = length-record p 4 false name count in
+    h .left ∙ rw (savable-parts name w .0, l, l) (append-nil (entryRecord p 4 false name count))
+
+pub entry-writes : (x : ℕ) (P name : List ℕ) (count a b : ℕ) (before after out : List ℕ) (r : Handed)
+    → Hands (entryWritten (place a b) 4 false name count) (replicate 35 0) out r → after ≡ placed x out before → a ≡ getD P 0 0 → b ≡ getD P 1 0
+    → savable name ≡ true → EntryPut x P name count before after
+entry-writes x P name count a b before after out r h e f g w =
+    record {
+      is =
+          e ∙ ap (λ (o : List ℕ). placed x o before) (made-is (place a b) name count out r h w)
+          ∙ (λ i. placed x (entryRecord (place (f i) (g i)) 4 false name count) before);
+    }
+
+pub ruleset entryWrites = (entry-writes, needs)
+
+-- its sectors and its entry
+pub file-puts : (x : ℕ) (P name : List ℕ) (address : ℕ) (bytes : List ℕ) (m : ℕ) (d d₁ d₂ : List ℕ) → EntryPut x P name m d₁ d₂ → Filed P address bytes d d₁
+    → m ≡ listsFor (dataFor (length bytes)) + dataFor (length bytes) → FilePut x P name address bytes d d₂
+file-puts x P name address bytes m d d₁ d₂ e f q =
+    record { is = e .is ∙ (λ i. placed x (entryRecord (placeIn P 0) 4 false name (q i)) (f .is i)) }
+
+pub ruleset filePuts = (file-puts, needs)
+
+module _ (d : List ℕ) (x : ℕ) (name : List ℕ) (address : ℕ) (bytes : List ℕ) (h : Storable d x name bytes) where
+  pub store-long : length d ≡ 143360
+  store-long = h .size
+
+  pub store-short : length bytes ≤ 32768
+  store-short = h .short
+
+  pub store-named : savable name ≡ true
+  store-named = h .named
+
+  module _ (m : ℕ) (T T′ P′ : List ℕ) (b : Bool) (a : Allotted m T (replicate 262 0) T′ P′ b) (c : Copied d T) (q : m ≡ listsFor (dataFor (length bytes)) + dataFor (length bytes)) where
+    fit : 2 * m ≤ 262
+    fit = rw q (places-fit (length bytes) (h .short))
+
+    pub store-none : b ≡ false → Amended (savedAt 16 d x name address bytes) d d 21
+    unfolding savedAt
+    store-none f = refuses d NoSpace (rw (allotted-none d (h .size) (length bytes) m 262 T (replicate 262 0) T′ P′ b a q (c .is) refl fit f) refl)
+
+    module _ (f : b ≡ true) where
+      all-given : (gs : List Part) × (takeFor 16 (length bytes) d ≡ given (gs, put (start 16 vtoc) T′ d)) × (P′ ≡ padded 262 (flatMap placeBytes (sectorsIn gs))) × (length T′ ≡ 256)
+      all-given = allotted-all d (h .size) (length bytes) m 262 T (replicate 262 0) T′ P′ b a q (c .is) refl fit f
+
+      abbrev gs : List Part
+      gs = all-given .0
+
+      takings : Taking 16 d (sectorsIn gs) (put 69632 T′ d) × Shaped (dataFor (length bytes)) false gs × (length gs ≡ listsFor (dataFor (length bytes)))
+      takings = take-for 16 (omega arith) (omega arith) (length bytes) d gs (put 69632 T′ d) (h .size) (all-given .1)
+
+      pub store-done : (d₁ d₃ : List ℕ) → FilePut x P′ name address bytes d₁ d₃ → d₁ ≡ placed 69632 T′ d → Amended (savedAt 16 d x name address bytes) d d₃ 0
+      unfolding savedAt
+      store-done d₁ d₃ e₃ e₁ =
+          let d₂ : List ℕ = filed P′ address bytes d₁ in
+          let z = h .size in
+          let y = h .fits in
+          let k : length T′ ≡ 256 = all-given .3 in
+          let p₁ = placed-put e₁ (omega arith) in
+          let l₁ : length d₁ ≡ length d = p₁ .long in
+          let l₂ : length d₂ ≡ length d₁ = filed-long P′ address bytes d₁ in
+          let on = every-imp (λ (p : Place) (t : Taker 16 p). t .on) (takings .0 .takes) in
+          let q₂ : d₂ ≡ written 16 (fileWrites gs address bytes) d₁ =
+          filed-written P′ gs (all-given .2) address bytes d₁ (h .short) (takings .1) (takings .2) on (l₁ ∙ h .size) in
+          let j = length-record (placeIn P′ 0) 4 false name (listsFor (dataFor (length bytes)) + dataFor (length bytes)) in
+          let p₃ = placed-put (e₃ .is) (omega arith) in
+          let count : listsFor (dataFor (length bytes)) + dataFor (length bytes) ≡ length gs + length (dataOf gs) = (λ i. sym (takings .2) i + sym (shaped-data (dataFor (length bytes)) false gs (takings .1)) i) in
+          let q₃ : d₃ ≡ put x (entryRecord (firstList gs) 4 false name (length gs + length (dataOf gs))) (written 16 (fileWrites gs address bytes) (put 69632 T′ d)) =
+          p₃ .is
+          ∙ (λ i. put x (entryRecord (first-place P′ gs (all-given .2) i) 4 false name (count i)) ((q₂ ∙ ap (written 16 (fileWrites gs address bytes)) (p₁ .is)) i)) in
+          accepts d d₃ (rw (all-given .1) (ap given (sym q₃)))
+
+pub ruleset stores = (store-long, store-short, store-named, store-none, store-done, not-true, not-false, needs)

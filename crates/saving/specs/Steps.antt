@@ -5,16 +5,19 @@ use mathlib.Core.List.{List, [], _∷_, flatMap, foldl}
 use mathlib.Core.Option.{Option, none, some}
 use Prim.Native.Nat.{ℕ, zero, suc, _+_, _*_, _≤_}
 use lib.ListN.{length}
+use Rattle.lists.specs.Fill.{placed}
 use Rattle.outcome.specs.Outcome.{given}
 use Rattle.disk.specs.declared.Place.{Place}
 use Rattle.disk.specs.Disk.{start, bytesOf}
 use Rattle.disk.specs.Vtoc.{vtoc}
 use Rattle.catalog.specs.Catalog.{entryFrom, pages}
 use Rattle.files.specs.Contents.{listWalk}
+use Rattle.records.specs.Records.{entryRecord}
 use Rattle.holders.specs.Holders.{withPairs, sectorsOf}
-use Rattle.amend.specs.Lines.{firstOf, lastOf, isNamed, inUse, starts}
-use Rattle.amend.specs.Save.{deletedAt}
+use Rattle.amend.specs.Lines.{firstOf, lastOf, savable, isNamed, inUse, starts}
+use Rattle.amend.specs.Save.{dataFor, listsFor, deletedAt}
 use Rattle.allot.specs.Table.{markOn}
+use Rattle.filing.specs.Filing.{placeIn, filed}
 use Rattle.saving.specs.declared.Sight.{Sight}
 
 -- ---- the lines looked along
@@ -114,3 +117,18 @@ pub record Erasable (d : List ℕ) (x : ℕ) : Type 0 where
 -- it was deleted
 pub record Erased (d : List ℕ) (x : ℕ) (after : List ℕ) : Type 0 where
   pub is : deletedAt 16 d x ≡ given after
+
+-- a file can be stored in the line from x on, as far as sectors are found
+pub record Storable (d : List ℕ) (x : ℕ) (name bytes : List ℕ) : Type 0 where
+  pub size : length d ≡ 143360
+  pub fits : x + 35 ≤ length d
+  pub named : savable name ≡ true
+  pub short : length bytes ≤ 32768
+
+-- the entry of a file was put in from x on, its first list being the first place
+pub record EntryPut (x : ℕ) (places name : List ℕ) (count : ℕ) (before after : List ℕ) : Type 0 where
+  pub is : after ≡ placed x (entryRecord (placeIn places 0) 4 false name count) before
+
+-- the sectors of a file were written, and its entry
+pub record FilePut (x : ℕ) (places name : List ℕ) (address : ℕ) (bytes before after : List ℕ) : Type 0 where
+  pub is : after ≡ placed x (entryRecord (placeIn places 0) 4 false name (listsFor (dataFor (length bytes)) + dataFor (length bytes))) (filed places address bytes before)

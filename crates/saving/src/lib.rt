@@ -1,35 +1,43 @@
 // Saving and deleting on a flat disk: Req 09. Not of the Rust.
 ghost use mathlib.Core.Path.{_≡_};
-ghost use mathlib.Core.Bool.{false};
+ghost use mathlib.Core.Bool.{true, false};
+ghost use Prim.Native.Nat.{_+_, _≤_};
 ghost use lib.ListN.{length};
 ghost use Rattle.outcome.specs.Outcome.{number};
 ghost use Rattle.lists.specs.Select.{among};
 ghost use Rattle.files.specs.Contents.{pairsOf};
 ghost use Rattle.amend.specs.Lines.{savable, tidy};
-ghost use Rattle.amend.specs.Save.{deleted};
+ghost use Rattle.amend.specs.Save.{dataFor, listsFor, savedAt, saved, deleted};
 ghost use Rattle.saving.specs.Saving.{Amended};
-ghost use Rattle.saving.specs.Steps.{LineSeen, PageSeen, Seen, Paged, PairsFreed, ListFreed, Linked, ListsFreed, Copied, Erasable, Erased};
+ghost use Rattle.saving.specs.Steps.{LineSeen, PageSeen, Seen, Paged, PairsFreed, ListFreed, Linked, ListsFreed, Copied, Erasable, Erased, Storable, EntryPut, FilePut};
 use allot::mark_sector;
+use allot::take_sectors;
 use catalog::entry_list;
 use catalog::entry_start;
 use catalog::first_page;
 use catalog::last_page;
 use catalog::valid_file;
 use disk::Place;
+use disk::Sector;
+use disk::Track;
 use disk::chain_budget;
 use disk::link_of;
 use files::MAX_PAIRS;
 use files::has_name;
 use files::last_list;
 use files::parse_track_sector_pair;
+use filing::write_file;
 use holders::holders;
 use lists::byte_at;
 use lists::copy_at;
 use lists::part;
+use outcome::NAME_TAKEN;
+use outcome::NO_SPACE;
 use outcome::NOT_CLEAN;
 use outcome::NOT_ON_ROLL;
 use outcome::OFF_SIZE;
 use outcome::UNWRITABLE_NAME;
+use records::file_entry_as_vec;
 use records::writable_name;
 
 // What a look along the lines has found: the last line of a name, and the first that is not in use.
@@ -238,4 +246,76 @@ pub fn delete(disk: &mut [u8], name: &[u8]) -> u8
     }
     erase(disk, s.line);
     0
+}
+
+// How many sectors a file of k bytes takes: lists and data.
+fn sectors_for(k: usize) -> usize
+    requires { ⌜ k ≤ 32768 ⌝ }
+    ensures is { λ r. ⌜ r ≡ listsFor (dataFor k) + dataFor k ⌝ }
+    ensures small { λ r. ⌜ r ≤ 131 ⌝ }
+{
+    let m = (4 + k + 255) / 256;
+    (m + 121) / 122 + m
+}
+
+// Puts in the entry of a saved file, unlocked Binary, from x on.
+fn write_entry(disk: &mut [u8], x: usize, places: &[u8], name: &[u8], count: u16)
+    requires { ⌜ savable (now name) ≡ true ⌝ }
+    ensures { λ _. ⌜ EntryPut x (now (places .entry)) (now (name .entry)) count (now (disk .entry)) (now (disk .exit)) ⌝ }
+{
+    let list = Place {
+        track: Track(byte_at(places, 0)),
+        sector: Sector(byte_at(places, 1)),
+    };
+    let mut record = [0u8; 35];
+    file_entry_as_vec(list, 4, false, name, count, &mut record);
+    copy_at(&record, disk, x);
+}
+
+// Writes the sectors of a file, whose places are known, and its entry from x on.
+fn put_file(disk: &mut [u8], x: usize, places: &[u8], name: &[u8], address: u16, data: &[u8])
+    requires { ⌜ (savable (now name) ≡ true) × (length (now «data») ≤ 32768) ⌝ }
+    ensures { λ _. ⌜ FilePut x (now (places .entry)) (now (name .entry)) address (now («data» .entry)) (now (disk .entry)) (now (disk .exit)) ⌝ }
+{
+    write_file(disk, places, address, data);
+    write_entry(disk, x, places, name, sectors_for(data.len()) as u16);
+}
+
+// Stores a file in the line from x on: its sectors are sought first, and only then the first byte is written; refusal 21.
+fn store(disk: &mut [u8], x: usize, name: &[u8], address: u16, data: &[u8]) -> u8
+    requires { ⌜ Storable (now disk) x (now name) (now «data») ⌝ }
+    ensures { λ r. ⌜ Amended (savedAt 16 (now (disk .entry)) x (now (name .entry)) address (now («data» .entry))) (now (disk .entry)) (now (disk .exit)) r ⌝ }
+{
+    let mut table = vtoc_copy(disk);
+    let mut places = [0u8; 262];
+    if !take_sectors(&mut table, &mut places, sectors_for(data.len())) {
+        return NO_SPACE;
+    }
+    copy_at(&table, disk, 69632);
+    put_file(disk, x, &places, name, address, data);
+    0
+}
+
+// Saves a Binary file, unlocked; refusals 1 to 6, 20, 14, 22, 21.
+pub fn save(disk: &mut [u8], name: &[u8], address: u16, data: &[u8]) -> u8
+    ensures { λ r. ⌜ Amended (saved 16 (now (disk .entry)) (now (name .entry)) address (now («data» .entry))) (now (disk .entry)) (now (disk .exit)) r ⌝ }
+{
+    let number = tidy_refusal(disk);
+    if number != 0 {
+        return number;
+    }
+    if !savable_name(name) {
+        return UNWRITABLE_NAME;
+    }
+    let s = look(disk, name);
+    if s.named {
+        return NAME_TAKEN;
+    }
+    if 32768 < data.len() {
+        return NO_SPACE;
+    }
+    if !s.vacant {
+        return NO_SPACE;
+    }
+    store(disk, s.room, name, address, data)
 }
