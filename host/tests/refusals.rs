@@ -28,15 +28,21 @@ fn deep(d: &[u8], due: Refusal) {
     amended(d, due);
 }
 
-// So do a save and a delete, and the disk stays as it was.
+// So do a save and a delete, and the disk stays as it was. The same where the map calls the VTOC free: 20 comes behind.
 fn amended(d: &[u8], due: Refusal) {
-    let mut e = d.to_vec();
-    let mut disk = DiskMut::flat(&mut e);
-    for (name, data) in [(&b"NEW"[..], &[1; 9][..]), (b"", &[]), (b"LINE 7", &[])] {
-        assert_eq!(disk.save(name, 1, data), Err(due));
-        assert_eq!(disk.delete(name), Err(due));
+    let mut dirty = d.to_vec();
+    if let Some(bits) = dirty.get_mut(at(17, 0) + 56 + 4 * 17 + 1) {
+        *bits |= 1;
     }
-    assert_eq!(e, d);
+    for before in [d, &dirty] {
+        let mut e = before.to_vec();
+        let mut disk = DiskMut::flat(&mut e);
+        for (name, data) in [(&b"NEW"[..], &[1; 9][..]), (b"", &[]), (b"LINE 7", &[])] {
+            assert_eq!(disk.save(name, 1, data), Err(due));
+            assert_eq!(disk.delete(name), Err(due));
+        }
+        assert_eq!(e, before);
+    }
 }
 
 // Those, and the catalog.

@@ -109,7 +109,11 @@ pub fn savable(name: &[u8]) -> bool {
 
 // One search: the sector is taken in the map, and last track and direction are written back.
 fn seek(d: &mut [u8], later_list: bool) -> Option<Place> {
-    let last = if d[TABLE + 48] > 34 { 17 } else { d[TABLE + 48] };
+    let last = if d[TABLE + 48] > 34 {
+        17
+    } else {
+        d[TABLE + 48]
+    };
     let up = d[TABLE + 49] != 255;
     for (from, up) in [(last, up), (17, !up), (17, up)] {
         let mut tracks: Vec<u8> = if up {
