@@ -32,6 +32,7 @@
  *   - Time: dos33_archive_entry goes through all of the archive, dos33_archive_step looks at one
  *     block. dos33_file, dos33_fetch and dos33_lists judge every file of the disk; for all files at
  *     once: dos33_archive_write, dos33_archive_open, then dos33_archive_step entry by entry.
+ *     dos33_save and dos33_delete judge every file, and count the holders of every sector, each time.
  *   - Time on streams: dos33_sector and dos33_sector_13 look for the first field of a key at each
  *     field with a wrong sum that repeats one. Where these are many, the time grows with the square
  *     of the stream's length: streams made for it, half bytes D5h and half such fields, took 0.12 s

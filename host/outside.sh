@@ -19,20 +19,18 @@ floptool flopconvert a2_nib a2_16sect_dos "$work/disk.nib" "$work/back.dsk"
 cmp "$work/disk.nib.dsk" "$work/back.dsk"
 echo "floptool reads the stream as the same 143,360 bytes"
 
-# Files of these lengths, each named after it; that of 7,000 is deleted, and its line and sectors are used again.
+# Files of these lengths, each named after it; that of 7,000 is deleted, and its line and sectors are used again. No name holds a space.
 mkdir "$work/files"
-for size in 0 1 252 253 7000 509 30000; do
-    head -c "$size" "$work/disk.nib.dsk" >"$work/files/F$size"
-done
-(cd "$work/files" && echo F0 F1 F252 F253 F7000 -F7000 F509 F30000) >"$work/words"
 words=
-for word in $(cat "$work/words"); do
+for word in F0 F1 F252 F253 F7000 -F7000 F509 F30000; do
     case $word in
     -*) words="$words $word" ;;
-    *) words="$words $work/files/$word" ;;
+    *)
+        head -c "${word#F}" "$work/disk.nib.dsk" >"$work/files/$word"
+        words="$words $work/files/$word"
+        ;;
     esac
 done
-# The names hold no spaces.
 cargo run --quiet --example save -- "$work/saved.dsk" $words >"$work/catalog"
 rm "$work/files/F7000"
 [ "$(cut -c5- "$work/catalog" | tr '\n' ' ')" = "F0 F1 F252 F253 F509 F30000 " ] || { echo "another catalog:"; cat "$work/catalog"; exit 1; }

@@ -5,7 +5,8 @@ use crate::{lend, raw, Disk, Refusal};
 /// nothing is being saved: [`disk`](DiskMut::disk).
 ///
 /// A refused call leaves every byte as it was. One that is accepted changes the VTOC, the page of the entry
-/// and the sectors that a save takes, and nothing else. A clean disk stays clean.
+/// and the sectors that a save takes, and nothing else. A clean disk stays clean. Each call judges the whole
+/// disk first; nothing is kept between calls.
 ///
 /// ```
 /// use dos33::{DiskMut, Refusal};
