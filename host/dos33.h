@@ -4,7 +4,7 @@
  *
  * A flat disk is 35 tracks of sectors of 256 bytes. Its length alone says how many a track has:
  * 143,360 bytes are 16 (DOS 3.3), 116,480 bytes are 13 (DOS 3.2). Every function that takes a flat
- * disk takes both; only dos33_nibblize refuses 116,480 bytes, as 1.
+ * disk takes both; only dos33_nibblize, dos33_save and dos33_delete refuse 116,480 bytes, as 1.
  * A nibble stream is read as the caller says: dos33_denibblize and dos33_sector go by the address
  * mark D5 AA 96 (h) and 6-and-2 coding, those with _13 by D5 AA B5 (h) and 5-and-3. A stream that
  * both can read stands for two disks. Which mark comes first: dos33_recognize_prologue.
@@ -12,8 +12,8 @@
  * Duties of the caller, for every function:
  *   - each pointer is valid for its length, and not null, even where the length is 0;
  *   - `length` points to one uint64_t; the lengths of `fields` and `run` are in elements;
- *   - what is lent to be written (`out`, `length`, `fields`, `run`) overlaps nothing else that is
- *     lent.
+ *   - what is lent to be written (`out`, `length`, `fields`, `run`, and the `disk` of dos33_save and
+ *     dos33_delete) overlaps nothing else that is lent.
  * There is no other: any bytes and any numbers may be handed in.
  *
  * The result is 0 for accepted, or the number of a refusal (below). Only
@@ -21,7 +21,7 @@
  *   - Under a refusal nothing lent changes.
  *   - Where a call is accepted, `out` receives the bytes and *length their number, `run` the pairs
  *     and *length their number, or `fields` its numbers in the order given. What lies past them
- *     keeps its content.
+ *     keeps its content. dos33_save and dos33_delete change `disk` in place.
  * Each comment names the refusals in the order in which they are tested. A yes or no handed in is a
  * uint8_t: 0 is no, anything else is yes. A type is one of the codes below.
  *
@@ -32,6 +32,7 @@
  *   - Time: dos33_archive_entry goes through all of the archive, dos33_archive_step looks at one
  *     block. dos33_file, dos33_fetch and dos33_lists judge every file of the disk; for all files at
  *     once: dos33_archive_write, dos33_archive_open, then dos33_archive_step entry by entry.
+ *     dos33_save and dos33_delete judge every file, and count the holders of every sector, each time.
  *   - Time on streams: dos33_sector and dos33_sector_13 look for the first field of a key at each
  *     field with a wrong sum that repeats one. Where these are many, the time grows with the square
  *     of the stream's length: streams made for it, half bytes D5h and half such fields, took 0.12 s
@@ -51,8 +52,8 @@ extern "C" {
 /* Refusals. */
 enum {
     DOS33_ACCEPTED = 0,
-    DOS33_OFF_SIZE = 1,         /* flat disk neither 143,360 nor 116,480 bytes (to nibblize: not
-                                   143,360); sector to encode not 256 */
+    DOS33_OFF_SIZE = 1,         /* flat disk neither 143,360 nor 116,480 bytes (to nibblize, to save
+                                   to, to delete from: not 143,360); sector to encode not 256 */
     DOS33_NO_TABLE = 2,         /* VTOC: tracks not 35 or 40, sectors not 16 or 13 (on a disk
                                    of 13 sectors a track: not 13) */
     DOS33_OFF_DISC = 3,         /* a page, list, pair or location is not on the disk */
@@ -67,11 +68,16 @@ enum {
                                    12) or a second volume */
     DOS33_TRAY_SHORT = 12,      /* lent space under the need */
     DOS33_NOT_ITS_RETURN = 13,  /* not the disk's archive, or no archive */
-    DOS33_UNWRITABLE_NAME = 14, /* empty, over 30, byte 80h or more */
+    DOS33_UNWRITABLE_NAME = 14, /* empty, over 30, byte 80h or more; of a save or a delete also a
+                                   byte 0, or a space at the end */
     DOS33_NOT_BINARY = 15,      /* a file of another type */
     DOS33_PAGE_FULL = 16,       /* over 7 entries */
     DOS33_CUT_SHORT = 17,       /* too few bytes to recognise */
-    DOS33_NOT_ON_ROLL = 18      /* no entry has the name asked for */
+    DOS33_NOT_ON_ROLL = 18,     /* no entry has the name asked for */
+    DOS33_NOT_CLEAN = 20,       /* to save to or to delete from: a sector is shared, or a held one
+                                   is free in the map (dos33_holders) */
+    DOS33_NO_SPACE = 21,        /* no sector or no entry line for a save, or data over 32,768 */
+    DOS33_NAME_TAKEN = 22       /* an entry shows the name to save */
 };
 
 /* File types. Any other code is Unknown. */
@@ -105,6 +111,7 @@ enum {
     DOS33_PAIR_RUN_MOST = 122,      /* pair_run, in pairs: bytes 12 to 255 of a list */
     DOS33_PAIRS_MOST = 2 * DOS33_PAIR_RUN_MOST, /* pairs, in bytes */
     DOS33_FILE_MOST = 65536,        /* file, fetch */
+    DOS33_SAVE_MOST = 32768,        /* the most bytes that save takes */
     DOS33_ARCHIVE_MOST = 1048576,   /* archive_write: 256 * 4096 */
     DOS33_NIBBLES_SIZE = 343,       /* encode_sector: a sector in 6-and-2, and the sum */
     DOS33_NIBBLES_SIZE_13 = 411,    /* a sector in 5-and-3, and the sum; it is read, not written */
@@ -186,6 +193,25 @@ uint8_t dos33_survey(const uint8_t *disk, size_t disk_length,
    clean where the third and the fourth number are 0. 1 to 6, 12. */
 uint8_t dos33_holders(const uint8_t *disk, size_t disk_length,
                       uint64_t *fields, size_t fields_length);
+
+/* Saves `data`, at most DOS33_SAVE_MOST bytes, as an unlocked Binary file with that load address: the
+   disk is changed in place. The entry fills the first line that is unused or deleted, in chain
+   order; no page is added. Each sector is sought anew, from the VTOC's last track in its direction to
+   the edge, then from track 17 the other way, then from 17 back, in a track the highest first; the
+   first list, its data, the next list, its data. Tracks 0, 17 and that of the first catalog page are
+   never taken. The name is 1 to 30 bytes below 80h, none of them 0, with no space at its end. Only the
+   VTOC, the entry's page and the sectors taken change, and a clean disk stays clean.
+   1 (also for 116,480 bytes) to 6, 20, 14, 22, 21. */
+uint8_t dos33_save(uint8_t *disk, size_t disk_length,
+                   const uint8_t *name, size_t name_length, uint16_t address,
+                   const uint8_t *data, size_t data_length);
+
+/* Deletes the last entry whose shown name is `name`, locked or not, of any type: the disk is changed
+   in place. The line's list track becomes FFh and its name's last byte the old one, and the map calls
+   its lists and data sectors free; their bytes stay. An entry whose name is shown empty or with a
+   byte 0 cannot be deleted so: 14. 1 (also for 116,480 bytes) to 6, 20, 14, 18. */
+uint8_t dos33_delete(uint8_t *disk, size_t disk_length,
+                     const uint8_t *name, size_t name_length);
 
 /* The disk's archive. It does not tell how many sectors a track has: disks of 16 and of 13 with the
    same contents have the same archive. 1 to 6, 7, 12. */

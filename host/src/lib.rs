@@ -1,6 +1,7 @@
-//! Apple DOS 3.3 and DOS 3.2 disks for displays and tools: catalog, files, nibble streams and archives.
+//! Apple DOS 3.3 and DOS 3.2 disks for displays and tools: catalog, files, nibble streams and archives; files
+//! saved and deleted on DOS 3.3 disks.
 //!
-//! The work is done by functions that are proved to give what document 01 defines, on every input.
+//! The work is done by functions that are proved to give what documents 01 and 02 define, on every input.
 //! This crate lends them the space they need, and takes apart what they hand over. No call panics;
 //! what cannot be done is a [`Refusal`].
 //!
@@ -40,8 +41,8 @@
 //!
 //! A flat disk's length alone says its edition: [`DISK_SIZE`] bytes are 16 sectors a track (DOS 3.3),
 //! [`DISK_SIZE_13`] bytes are 13 (DOS 3.2). Every call on a [`Disk`] takes both, but
-//! [`Disk::nibblize`], which refuses 13 as 1: their streams are read, not written. The archive is the
-//! same for the same contents on either.
+//! [`Disk::nibblize`], which refuses 13 as 1: their streams are read, not written. So do the calls on a
+//! [`DiskMut`]. The archive is the same for the same contents on either.
 //!
 //! A stream's edition is said by the call and never guessed: [`Disk::nibbles`], [`denibblize`] and
 //! [`stream_sector`] read 16, [`Disk::nibbles_13`], [`denibblize_13`] and [`stream_sector_13`] read 13.
@@ -58,6 +59,7 @@
 //! | list, lent run of pairs | [`Disk::pairs`], [`Disk::pair_run`] |
 //! | window, survey | [`Disk::sector`], [`Disk::survey`] |
 //! | crossed threads | [`Disk::holders`], [`Disk::is_clean`] |
+//! | saving, deleting | [`DiskMut::save`], [`DiskMut::delete`] |
 //! | return | [`Disk::archive`], [`Disk::check`], [`Archive`] |
 //! | unroll, nibble writer | [`denibblize`], [`denibblize_13`], [`nibblize`] |
 //! | slip, number | [`Refusal`], [`Refusal::number`] |
@@ -76,6 +78,7 @@
 
 mod archive;
 mod disk;
+mod disk_mut;
 mod lend;
 mod nibbles;
 pub mod raw;
@@ -85,6 +88,7 @@ mod types;
 
 pub use archive::{Archive, ArchiveEntry, Data, Entries};
 pub use disk::Disk;
+pub use disk_mut::DiskMut;
 pub use nibbles::{
     denibblize, denibblize_13, encode_sector, format_from_data, nibblize, recognize_prologue,
     stream_sector, stream_sector_13, Key, Prologue,
@@ -113,6 +117,9 @@ pub const DISK_SIZE_13: usize = 256 * SECTORS_PER_TRACK_13 * TRACKS;
 
 /// The bytes of a stream that [`nibblize`] writes.
 pub const STREAM_SIZE: usize = 232_960;
+
+/// The most bytes that a save takes: [`DiskMut::save`].
+pub const SAVE_MOST: usize = 32_768;
 
 /// The pairs that a track/sector list has at most: bytes 12 to 255 of its sector. So much space is
 /// always enough for [`Disk::pair_run`].

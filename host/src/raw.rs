@@ -1,13 +1,14 @@
 //! The exported functions as they are. The safe calls of this crate stand on them.
 //!
 //! A flat disk is 143,360 bytes (16 sectors a track) or 116,480 (13); its length alone says which.
-//! Only [`dos33_nibblize`] refuses the second. A stream is read by the coding that the caller names.
+//! Only [`dos33_nibblize`], [`dos33_save`] and [`dos33_delete`] refuse the second. A stream is read by the
+//! coding that the caller names.
 //!
 //! A slice is a pointer and a length (of `fields` and `run`: in elements). The result is the number of
 //! a refusal, 0 for accepted; only [`dos33_recognize_prologue`] gives something else. Under a refusal
 //! nothing lent changes. Where a call is accepted, `out` receives the bytes and `*length` their number,
 //! `run` the pairs and `*length` their number, or `fields` its numbers; what lies past them keeps its
-//! content.
+//! content. A save and a delete change `disk` in place.
 //!
 //! # Safety
 //!
@@ -125,6 +126,27 @@ extern "C" {
         disk_length: usize,
         fields: *mut u64,
         fields_length: usize,
+    ) -> u8;
+
+    /// Saves `data` as an unlocked Binary file of that name and load address, in the first entry line that
+    /// is not in use: the disk is changed in place. Refusals 1 to 6, 20, 14, 22, 21.
+    pub fn dos33_save(
+        disk: *mut u8,
+        disk_length: usize,
+        name: *const u8,
+        name_length: usize,
+        address: u16,
+        data: *const u8,
+        data_length: usize,
+    ) -> u8;
+
+    /// Deletes the last entry whose shown name is `name`, locked or not, of any type: the disk is changed in
+    /// place. Refusals 1 to 6, 20, 14, 18.
+    pub fn dos33_delete(
+        disk: *mut u8,
+        disk_length: usize,
+        name: *const u8,
+        name_length: usize,
     ) -> u8;
 
     /// The disk's archive. Refusals 1 to 6, 7, 12.

@@ -7,7 +7,8 @@ use crate::{lend, raw};
 // The letters of the longest word.
 const WORD_MOST: usize = 15;
 
-/// Why a call refuses. Words and numbers are those of document 01, "Numbers on the slip".
+/// Why a call refuses. Words and numbers are those of document 01, "Numbers on the slip", and from 20 on
+/// those of document 02.
 ///
 /// ```
 /// use dos33::{Disk, Refusal};
@@ -20,8 +21,8 @@ const WORD_MOST: usize = 15;
 #[derive(Clone, Copy, Debug, PartialEq, Eq, Hash, PartialOrd, Ord)]
 #[non_exhaustive]
 pub enum Refusal {
-    /// 1: a flat disk that is neither 143,360 nor 116,480 bytes (to nibblize: not 143,360), or a sector
-    /// to encode that is not 256.
+    /// 1: a flat disk that is neither 143,360 nor 116,480 bytes (to nibblize, to save to and to delete
+    /// from: not 143,360), or a sector to encode that is not 256.
     OffSize,
     /// 2: the VTOC's tracks are not 35 or 40, or its sectors not 13 or 16; on a disk of 13 sectors a
     /// track: not 13.
@@ -50,7 +51,8 @@ pub enum Refusal {
     TrayShort,
     /// 13: bytes that are not the disk's archive, or no archive at all.
     NotItsReturn,
-    /// 14: a name to write is empty, over 30 bytes, or has a byte of 80h or more.
+    /// 14: a name to write is empty, over 30 bytes, or has a byte of 80h or more; of a save or a delete
+    /// also one with a byte 0 or with a space at its end.
     UnwritableName,
     /// 15: a file to write that is not Binary.
     NotBinary,
@@ -60,12 +62,19 @@ pub enum Refusal {
     CutShort,
     /// 18: no entry has the name asked for.
     NotOnRoll,
-    /// A number that document 01 does not have. No function gives one.
+    /// 20: a disk to save to or to delete from is not clean, as [`Holders::clean`](crate::Holders::clean)
+    /// says.
+    NotClean,
+    /// 21: no sector or no entry line is left for a save, or its data is over 32,768 bytes.
+    NoSpace,
+    /// 22: an entry of the catalog shows the name to save.
+    NameTaken,
+    /// A number that no refusal has. No function gives one.
     Unnamed(u8),
 }
 
 impl Refusal {
-    /// All that document 01 has, in the order of their numbers, from 1.
+    /// All of them, in the order of their numbers: 1 to 18, then 20 to 22.
     pub const ALL: &'static [Refusal] = &[
         Refusal::OffSize,
         Refusal::NoTable,
@@ -85,6 +94,9 @@ impl Refusal {
         Refusal::PageFull,
         Refusal::CutShort,
         Refusal::NotOnRoll,
+        Refusal::NotClean,
+        Refusal::NoSpace,
+        Refusal::NameTaken,
     ];
 
     /// The refusal with this number; none for 0, which means accepted.
@@ -93,8 +105,9 @@ impl Refusal {
             0 => None,
             n => Some(
                 Refusal::ALL
-                    .get(usize::from(n) - 1)
+                    .iter()
                     .copied()
+                    .find(|r| r.number() == n)
                     .unwrap_or(Refusal::Unnamed(n)),
             ),
         }
@@ -121,11 +134,14 @@ impl Refusal {
             Refusal::PageFull => 16,
             Refusal::CutShort => 17,
             Refusal::NotOnRoll => 18,
+            Refusal::NotClean => 20,
+            Refusal::NoSpace => 21,
+            Refusal::NameTaken => 22,
             Refusal::Unnamed(n) => n,
         }
     }
 
-    /// The paper's word, as the library has it; empty for a number that document 01 does not have.
+    /// The paper's word, as the library has it; empty for a number that no refusal has.
     pub fn word(self) -> &'static str {
         static WORDS: OnceLock<Vec<String>> = OnceLock::new();
         let words = WORDS.get_or_init(|| (0..=255).map(word_of).collect());

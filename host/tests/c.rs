@@ -3,9 +3,15 @@ use std::env;
 use std::path::Path;
 use std::process::Command;
 
-fn builds_and_runs(compiler: &str, language: &str, name: &str) {
+// A C program of this folder, built as C or C++, and what it prints.
+fn output(compiler: &str, language: &str, source: &str) -> String {
     let here = Path::new(env!("CARGO_MANIFEST_DIR"));
-    let program = Path::new(env!("CARGO_TARGET_TMPDIR")).join(name);
+    let (kind, name) = if language.starts_with("-std=c++") {
+        ("c++", format!("{source}.cpp"))
+    } else {
+        ("c", format!("{source}.c"))
+    };
+    let program = Path::new(env!("CARGO_TARGET_TMPDIR")).join(name.replace('/', "_"));
     let built = Command::new(compiler)
         .args([
             "-Wall",
@@ -15,11 +21,11 @@ fn builds_and_runs(compiler: &str, language: &str, name: &str) {
             "-O1",
             language,
             "-x",
+            kind,
         ])
-        .arg(if name.ends_with("cpp") { "c++" } else { "c" })
         .arg("-I")
         .arg(here)
-        .arg(here.join("tests").join("smoke.c"))
+        .arg(here.join(source))
         .args(["-x", "none"])
         .arg(env!("DOS33_LIBRARY"))
         .arg("-o")
@@ -32,28 +38,35 @@ fn builds_and_runs(compiler: &str, language: &str, name: &str) {
         String::from_utf8_lossy(&built.stderr)
     );
     let ran = Command::new(&program).output().expect("the program starts");
-    assert_eq!(String::from_utf8_lossy(&ran.stdout), "good\n");
-    assert!(ran.status.success());
+    let printed = String::from_utf8_lossy(&ran.stdout).into_owned();
+    assert!(ran.status.success(), "{printed}");
+    printed
 }
 
+const SMOKE: &str = "tests/smoke.c";
+const SAVING: &str = "examples/saving.c";
+const SAVING_PRINTS: &str = include_str!("../examples/saving.txt");
+
 #[test]
-fn smoke_in_c() {
+fn smoke_and_saving_in_c() {
     let cc = env::var("CC").unwrap_or_else(|_| "cc".into());
-    builds_and_runs(&cc, "-std=c99", "smoke_c");
+    assert_eq!(output(&cc, "-std=c99", SMOKE), "good\n");
+    assert_eq!(output(&cc, "-std=c99", SAVING), SAVING_PRINTS);
 }
 
 // Where there is no C++ compiler, this says so and passes.
 #[test]
-fn smoke_in_cpp() {
+fn smoke_and_saving_in_cpp() {
     let cxx = env::var("CXX").unwrap_or_else(|_| "c++".into());
     if Command::new(&cxx).arg("--version").output().is_err() {
         eprintln!("no {cxx}: the header was not tried in C++");
         return;
     }
-    builds_and_runs(&cxx, "-std=c++11", "smoke_cpp");
+    assert_eq!(output(&cxx, "-std=c++11", SMOKE), "good\n");
+    assert_eq!(output(&cxx, "-std=c++11", SAVING), SAVING_PRINTS);
 }
 
-// The header, the Rust declarations and the table of docs/HOST-API.md have the same 27 names; smoke.c links them all, and so do the tests of the raw functions.
+// The header, the Rust declarations and the table of docs/HOST-API.md have the same 29 names; smoke.c links them all, and so do the tests of the raw functions.
 #[test]
 fn header_and_raw_have_the_same_functions() {
     let names = |text: &str, before: &str| -> Vec<String> {
@@ -68,7 +81,7 @@ fn header_and_raw_have_the_same_functions() {
     };
     let header = names(include_str!("../dos33.h"), "uint8_t dos33_");
     let raw = names(include_str!("../src/raw.rs"), "pub fn dos33_");
-    assert_eq!(header.len(), 27);
+    assert_eq!(header.len(), 29);
     assert_eq!(header, raw);
     assert_eq!(
         header,

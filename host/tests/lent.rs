@@ -234,7 +234,10 @@ fn words_of_refusals() {
     assert_eq!(hands(4, &word(4)), b"ring");
     assert_eq!(hands(15, &word(14)), b"unwritable name");
     assert_eq!(hands(11, &word(18)), b"not on roll");
-    for number in (19..=255).chain([0]) {
+    assert_eq!(hands(9, &word(20)), b"not clean");
+    assert_eq!(hands(8, &word(21)), b"no space");
+    assert_eq!(hands(10, &word(22)), b"name taken");
+    for number in (23..=255).chain([0, 19]) {
         assert_eq!(hands(0, &word(number)), b"");
     }
 }

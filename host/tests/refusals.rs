@@ -25,6 +25,24 @@ fn deep(d: &[u8], due: Refusal) {
     assert_eq!(disk.is_clean(), Err(due));
     assert_eq!(disk.archive(), Err(due));
     assert_eq!(disk.check(&[]), Err(due));
+    amended(d, due);
+}
+
+// So do a save and a delete, and the disk stays as it was. The same where the map calls the VTOC free: 20 comes behind.
+fn amended(d: &[u8], due: Refusal) {
+    let mut dirty = d.to_vec();
+    if let Some(bits) = dirty.get_mut(at(17, 0) + 56 + 4 * 17 + 1) {
+        *bits |= 1;
+    }
+    for before in [d, &dirty] {
+        let mut e = before.to_vec();
+        let mut disk = DiskMut::flat(&mut e);
+        for (name, data) in [(&b"NEW"[..], &[1; 9][..]), (b"", &[]), (b"LINE 7", &[])] {
+            assert_eq!(disk.save(name, 1, data), Err(due));
+            assert_eq!(disk.delete(name), Err(due));
+        }
+        assert_eq!(e, before);
+    }
 }
 
 // Those, and the catalog.
@@ -55,19 +73,26 @@ fn words_and_numbers() {
         "page full",
         "cut short",
         "not on roll",
+        "not clean",
+        "no space",
+        "name taken",
     ];
-    for (k, word) in words.into_iter().enumerate() {
-        let r = Refusal::from_number(k as u8 + 1).unwrap();
+    // 19 is left for Req 01.
+    let numbers = (1..=18).chain(20..=22);
+    for (k, (number, word)) in numbers.clone().zip(words).enumerate() {
+        let r = Refusal::from_number(number).unwrap();
         assert_eq!(r, Refusal::ALL[k]);
-        assert_eq!((r.word(), usize::from(r.number())), (word, k + 1));
-        assert_eq!(r.to_string(), format!("{word} ({})", k + 1));
+        assert_eq!((r.word(), r.number()), (word, number));
+        assert_eq!(r.to_string(), format!("{word} ({number})"));
     }
     assert_eq!(Refusal::ALL.len(), words.len());
+    assert_eq!(numbers.clone().count(), words.len());
     // The others have none.
     assert_eq!(Refusal::from_number(0), None);
     assert_eq!(Refusal::Unnamed(0).word(), "");
-    for number in 19..=255 {
+    for number in (1..=255).filter(|n| !numbers.clone().any(|m| m == *n)) {
         let r = Refusal::from_number(number).unwrap();
+        assert_eq!(r, Refusal::Unnamed(number));
         assert_eq!((r.number(), r.word()), (number, ""));
         assert_eq!(r.to_string(), format!("no such number ({number})"));
     }

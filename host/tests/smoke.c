@@ -41,6 +41,7 @@ static size_t thirteen(void) {
 
 int main(void) {
     static const uint8_t name[] = {'L', 'I', 'N', 'E'};
+    static const uint8_t other[] = {'O', 'T', 'H', 'E', 'R', ' '};
     static const uint8_t header[] = {0, 0, 0};
     uint8_t data[300], listed[37] = {18, 2, DOS33_BINARY, 1, 4, 'L', 'I', 'N', 'E'};
     uint8_t small[4] = {1, 2, 3, 4};
@@ -190,6 +191,32 @@ int main(void) {
     at(17, 0)[2] = 15;
     EXPECT(dos33_archive_check(disk, sizeof disk, archive, blocks) == 0);
 
+    /* A second file, beside the locked one. The map calls 20/15 and 20/14 free, and no more. */
+    memcpy(image, disk, sizeof disk);
+    EXPECT(dos33_save(image, sizeof image, other, 5, 0x4000, data, 200) == DOS33_NO_SPACE);
+    EXPECT(memcmp(image, disk, sizeof disk) == 0);
+    image[4096 * 17 + 56 + 4 * 20] = 0xC0;
+    image[4096 * 17 + 48] = 18;
+    EXPECT(dos33_save(image, sizeof image, name, 4, 0x4000, data, 200) == DOS33_NAME_TAKEN);
+    EXPECT(dos33_save(image, sizeof image, other, 6, 0x4000, data, 200) == DOS33_UNWRITABLE_NAME);
+    EXPECT(dos33_save(image, sizeof image, other, 5, 0x4000, data, 253) == DOS33_NO_SPACE);
+    EXPECT(dos33_save(image, sizeof image, other, 5, 0x4000, data, 200) == 0);
+    EXPECT(image[4096 * 17 + 48] == 20 && image[4096 * 17 + 49] == 1 && image[4096 * 17 + 56 + 4 * 20] == 0);
+    EXPECT(dos33_fetch(image, sizeof image, other, 5, out, sizeof out, &n) == 0);
+    EXPECT(n == 200 && memcmp(out, data, 200) == 0);
+    EXPECT(dos33_lists(image, sizeof image, 1, out, sizeof out, &n) == 0);
+    EXPECT(n == 2 && out[0] == 20 && out[1] == 15);
+    EXPECT(dos33_delete(image, sizeof image, other, 3) == DOS33_NOT_ON_ROLL);
+    EXPECT(dos33_delete(image, sizeof image, name, 4) == 0);
+    EXPECT(dos33_catalog(image, sizeof image, out, sizeof out, &n) == 0);
+    EXPECT(n == 37 && out[0] == 20 && memcmp(out + 5, other, 5) == 0);
+    EXPECT(image[4096 * 17 + 256 * 15 + 11] == 0xFF && image[4096 * 17 + 256 * 15 + 43] == 18);
+    EXPECT(image[4096 * 17 + 56 + 4 * 18 + 1] == 0x1C);
+    /* The map calls a held sector free. */
+    image[4096 * 17 + 56 + 4 * 20] = 0x80;
+    EXPECT(dos33_save(image, sizeof image, name, 0, 0, data, 0) == DOS33_NOT_CLEAN);
+    EXPECT(dos33_delete(image, sizeof image, other, 5) == DOS33_NOT_CLEAN);
+
     /* 13 sectors a track: sector 12 of track 17 ends in FFh. */
     size = thirteen();
     field(17, 12)[17] = 0xBA;
@@ -227,6 +254,8 @@ int main(void) {
     EXPECT(n == 256 && out[255] == 0xFF);
     EXPECT(dos33_window(image, DOS33_DISK_SIZE_13, disk, 0, 1, 17, 13, out, sizeof out, &n) == DOS33_OFF_DISC);
     EXPECT(dos33_nibblize(image, DOS33_DISK_SIZE_13, stream, sizeof stream, &n) == DOS33_OFF_SIZE);
+    EXPECT(dos33_save(image, DOS33_DISK_SIZE_13, other, 5, 0, data, 1) == DOS33_OFF_SIZE);
+    EXPECT(dos33_delete(image, DOS33_DISK_SIZE_13, other, 5) == DOS33_OFF_SIZE);
 
     /* Nothing lent changes under a refusal. */
     n = 99;

@@ -10,6 +10,8 @@ ghost use Rattle.files.specs.Contents.{pairBytes};
 ghost use Rattle.files.specs.Survey.{fetched};
 ghost use Rattle.pairs.specs.Run.{pairRun};
 ghost use Rattle.files.specs.Chosen.{fileOfNumber, listsOfNumber};
+ghost use Rattle.amend.specs.Save.{saved, deleted};
+ghost use Rattle.saving.specs.Saving.{Amended};
 ghost use Rattle.nibble.specs.Nibble.{encoded};
 ghost use Rattle.fields.specs.declared.Edition.the-variants.{Sixteen, Thirteen};
 ghost use Rattle.stream.specs.Stream.{image, sectorOf};
@@ -125,6 +127,22 @@ pub extern "C" fn dos33_archive_check(disk: &[u8], archive: &[u8]) -> u8
     ensures { λ r. ⌜ r ≡ number (check (perOf (now (disk .entry))) (now (disk .entry)) (now (archive .entry))) ⌝ }
 {
     writer::check_archive(disk, archive)
+}
+
+// Saves a Binary file, not locked: the disk is changed in place. 1 to 6, 20, 14, 22, 21.
+#[no_mangle]
+pub extern "C" fn dos33_save(disk: &mut [u8], name: &[u8], address: u16, data: &[u8]) -> u8
+    ensures { λ r. ⌜ Amended (saved 16 (now (disk .entry)) (now (name .entry)) address (now («data» .entry))) (now (disk .entry)) (now (disk .exit)) r ⌝ }
+{
+    saving::save(disk, name, address, data)
+}
+
+// Deletes the last entry of the name, locked or not: the disk is changed in place. 1 to 6, 20, 14, 18.
+#[no_mangle]
+pub extern "C" fn dos33_delete(disk: &mut [u8], name: &[u8]) -> u8
+    ensures { λ r. ⌜ Amended (deleted 16 (now (disk .entry)) (now (name .entry))) (now (disk .entry)) (now (disk .exit)) r ⌝ }
+{
+    saving::delete(disk, name)
 }
 
 // The 342 nibbles of a sector and their sum. 1, 12.

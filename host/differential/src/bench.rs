@@ -32,6 +32,16 @@ mod raw {
         ) -> u8;
         pub fn dos33_survey(d: *const u8, n: usize, fields: *mut u64, count: usize) -> u8;
         pub fn dos33_holders(d: *const u8, n: usize, fields: *mut u64, count: usize) -> u8;
+        pub fn dos33_save(
+            d: *mut u8,
+            n: usize,
+            name: *const u8,
+            name_length: usize,
+            address: u16,
+            data: *const u8,
+            data_length: usize,
+        ) -> u8;
+        pub fn dos33_delete(d: *mut u8, n: usize, name: *const u8, name_length: usize) -> u8;
         pub fn dos33_archive_write(
             d: *const u8,
             n: usize,
@@ -84,6 +94,10 @@ type Kind = (u64, usize);
 const FULL: [Kind; 3] = [(75, 6), (25, 20), (8, 65)];
 const SMALL: Kind = (1, 6);
 
+// What is saved: the largest file there is.
+const SAVED: usize = 32_768;
+const NAME: &[u8] = b"SAVED";
+
 // A disk of Binary files, one list each.
 fn disk_of(random: &mut Random, (files, size): Kind) -> Vec<u8> {
     let mut disk = vec![0u8; SIZE];
@@ -124,6 +138,25 @@ fn disk_of(random: &mut Random, (files, size): Kind) -> Vec<u8> {
     disk
 }
 
+// Three quarters of the files, so that the largest file can be saved: what they do not hold is free, and the catalog has 15 pages.
+fn roomy(random: &mut Random, (files, size): Kind) -> Vec<u8> {
+    let files = (files * 3 / 4).max(1);
+    let mut disk = disk_of(random, (files, size));
+    let vtoc = 256 * 17 * 16;
+    disk[vtoc + 48] = 17;
+    disk[vtoc + 49] = 1;
+    let sectors = (16..560usize).filter(|s| s / 16 != 17);
+    for s in sectors.skip(files as usize * (size + 1)) {
+        let byte = if s % 16 < 8 { 1 } else { 0 };
+        disk[vtoc + 56 + 4 * (s / 16) + byte] |= 1 << (s % 8);
+    }
+    for page in 2..16 {
+        disk[vtoc + 256 * page + 1] = 17;
+        disk[vtoc + 256 * page + 2] = page as u8 - 1;
+    }
+    disk
+}
+
 // What both work on, and the space that ours fills.
 struct Work<'c> {
     config: &'c Config,
@@ -137,6 +170,11 @@ struct Work<'c> {
     stream_13: Vec<u8>,
     archive: Vec<u8>,
     sector: Vec<u8>,
+    // A disk with room for what is saved, the same with it, and a copy to work on.
+    roomy: Vec<u8>,
+    saved: Vec<u8>,
+    copy: Vec<u8>,
+    data: Vec<u8>,
     out: Vec<u8>,
     length: u64,
     fields: [u64; 7],
@@ -155,6 +193,10 @@ impl<'c> Work<'c> {
             stream_13: Vec::new(),
             archive: Vec::new(),
             sector: random.bytes(256),
+            roomy: Vec::new(),
+            saved: Vec::new(),
+            copy: vec![0; SIZE],
+            data: Vec::new(),
             out: vec![0; 1 << 20],
             length: 0,
             fields: [0; 7],
@@ -166,6 +208,11 @@ impl<'c> Work<'c> {
         work.stream_13 = thirteen::stream(&work.disk_13, 254);
         work.archive_write();
         work.archive = work.out[..work.length as usize].to_vec();
+        work.roomy = roomy(random, kind);
+        work.data = random.bytes(SAVED);
+        work.copy_roomy();
+        work.save();
+        work.saved = work.copy.clone();
         work
     }
 
@@ -186,6 +233,49 @@ impl<'c> Work<'c> {
         );
         // The disk is clean.
         assert_eq!(self.fields[4], 1);
+    }
+
+    fn survey_roomy(&mut self) {
+        let (d, n) = (self.roomy.as_ptr(), self.roomy.len());
+        assert_eq!(
+            unsafe { raw::dos33_survey(d, n, self.fields.as_mut_ptr(), 7) },
+            0
+        );
+    }
+
+    fn holders_roomy(&mut self) {
+        let (d, n) = (self.roomy.as_ptr(), self.roomy.len());
+        assert_eq!(
+            unsafe { raw::dos33_holders(d, n, self.fields.as_mut_ptr(), 5) },
+            0
+        );
+    }
+
+    fn copy_roomy(&mut self) {
+        black_box(&mut self.copy).copy_from_slice(black_box(&self.roomy));
+    }
+
+    fn copy_saved(&mut self) {
+        black_box(&mut self.copy).copy_from_slice(black_box(&self.saved));
+    }
+
+    // To the copy, which has the room.
+    fn save(&mut self) {
+        let (d, n) = (self.copy.as_mut_ptr(), self.copy.len());
+        let (a, size) = (self.data.as_ptr(), self.data.len());
+        assert_eq!(
+            unsafe { raw::dos33_save(d, n, NAME.as_ptr(), NAME.len(), 0x2000, a, size) },
+            0
+        );
+    }
+
+    // From the copy, which has the file.
+    fn delete(&mut self) {
+        let (d, n) = (self.copy.as_mut_ptr(), self.copy.len());
+        assert_eq!(
+            unsafe { raw::dos33_delete(d, n, NAME.as_ptr(), NAME.len()) },
+            0
+        );
     }
 
     fn catalog(&mut self) {
@@ -295,9 +385,20 @@ impl<'c> Work<'c> {
 
 type Thing = (&'static str, fn(&mut Work));
 
-const THINGS: [Thing; 16] = [
+const THINGS: [Thing; 21] = [
     ("survey", |w| w.survey()),
     ("holders", |w| w.holders()),
+    ("survey-roomy", |w| w.survey_roomy()),
+    ("holders-roomy", |w| w.holders_roomy()),
+    ("copy", |w| w.copy_roomy()),
+    ("copy-and-save", |w| {
+        w.copy_roomy();
+        w.save();
+    }),
+    ("copy-and-delete", |w| {
+        w.copy_saved();
+        w.delete();
+    }),
     ("catalog", |w| w.catalog()),
     ("file-0", |w| w.file(0)),
     ("catalog-and-files", |w| w.all_files()),
@@ -401,6 +502,36 @@ fn holders(work: &mut Work) {
     row("holders", holders / 20.0, "survey", survey / 20.0);
 }
 
+// The least time of one thing, with another done before it that is not counted.
+fn alone(work: &mut Work, before: fn(&mut Work), thing: fn(&mut Work)) -> f64 {
+    let mut best = f64::MAX;
+    for _ in 0..800 {
+        before(work);
+        let begin = Instant::now();
+        thing(work);
+        best = best.min(begin.elapsed().as_nanos() as f64);
+    }
+    best
+}
+
+// A file of 32,768 bytes saved to a copy of the disk with room, and deleted from it. The goal: four surveys of that disk, and the copy.
+fn saving(work: &mut Work) {
+    let (survey, holders) = least(
+        work,
+        20,
+        |w| (0..20).for_each(|_| w.survey_roomy()),
+        |w| (0..20).for_each(|_| w.holders_roomy()),
+    );
+    let (survey, holders) = (survey / 20.0, holders / 20.0);
+    let copy = alone(work, |w| w.copy_saved(), |w| w.copy_roomy());
+    let goal = 4.0 * survey + copy;
+    println!("  with room: survey {survey:.0} ns, holders {holders:.0} ns, copy {copy:.0} ns");
+    let save = alone(work, |w| w.copy_roomy(), |w| w.save());
+    row("32,768 bytes saved", save, "goal", goal);
+    let delete = alone(work, |w| w.copy_saved(), |w| w.delete());
+    row("the same deleted", delete, "survey", survey);
+}
+
 // Archives beside a copy of as many bytes.
 fn archives(work: &mut Work) {
     let things: [Thing; 3] = [
@@ -460,10 +591,13 @@ pub fn run(config: &Config) {
         );
         reading(work);
         holders(work);
+        saving(work);
         archives(work);
     }
     println!("an almost empty disk: one file of {} sectors", SMALL.1);
-    holders(&mut Work::new(config, SMALL));
+    let work = &mut Work::new(config, SMALL);
+    holders(work);
+    saving(work);
     println!("nibbles, on the disk of {} sectors a file", FULL[0].1);
     nibbles(&mut Work::new(config, FULL[0]));
 }

@@ -1,6 +1,7 @@
 // A small disk, built byte by byte, of 16 or of 13 sectors a track.
 #![allow(dead_code)]
 
+pub mod by_words;
 pub mod five_three;
 
 use dos33::{Disk, LIST_PAIRS, SECTORS_PER_TRACK, SECTORS_PER_TRACK_13};
