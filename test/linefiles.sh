@@ -269,6 +269,133 @@ same get-all-dash get samples/one-page.dsk --all -
 same get-all-too-many get samples/one-page.dsk NAME --all outs/all
 rm -rf outs/*
 
+# save and delete: the disk is replaced whole, or the changed one goes elsewhere
+seq 1 400 | head -c 1000 >ring
+head -c 32769 /dev/zero | tr '\0' '\252' >longest
+head -c 32768 longest >long
+: >nothing
+cp samples/one-page.dsk outs/disk.dsk
+chmod 640 outs/disk.dsk
+same save-line save outs/disk.dsk 'LINE 7 RING 8' 8192 ring
+holds save-line-tidy tidy "disk.dsk "
+holds save-line-mode test "$(stat -c %a:%u:%g outs/disk.dsk)" = "640:$(id -u):$(id -g)"
+same save-line-list list outs/disk.dsk
+same save-line-survey survey outs/disk.dsk
+run crossed outs/disk.dsk
+holds save-line-clean test "$status" = 0
+run get outs/disk.dsk 'LINE 7 RING 8' got
+holds save-line-bytes cmp ring got
+rm got
+cp outs/disk.dsk saved.dsk
+same save-out save samples/one-page.dsk 'LINE 7 RING 8' '$2000' ring --out outs/other.dsk
+holds save-out-bytes cmp saved.dsk outs/other.dsk
+holds save-out-kept cmp samples/one-page.dsk "$root/crates/linefiles/data/one-page.dsk"
+same save-out-there save samples/one-page.dsk 'LINE 7 RING 8' 0x2000 ring --out outs/other.dsk
+same save-out-force save samples/one-page.dsk 'LINE 7 RING 8' 0x2001 ring --force --out outs/other.dsk
+holds save-address test "$(cmp -l saved.dsk outs/other.dsk | wc -l)" = 1
+run save samples/one-page.dsk 'LINE 7 RING 8' 0X2000 - --out - <ring
+holds save-dashes cmp saved.dsk out
+holds save-dashes-told diff err - <<'END'
+samples/one-page.dsk: flat disk of 143360 bytes, 16 sectors a track
+saved LINE 7 RING 8 at address 8192: 1000 bytes, 4 data sectors, 1 list
+END
+run save - 'LINE 7 RING 8' 8192 ring --out outs/third.dsk <samples/one-page.dsk
+holds save-dash-disk cmp saved.dsk outs/third.dsk
+same save-dash-disk-no-out save - 'LINE 7 RING 8' 8192 ring
+same save-two-dashes save - 'LINE 7 RING 8' 8192 - --out outs/none
+same save-nothing save outs/disk.dsk NOTHING 0 nothing
+same save-escaped save outs/disk.dsk 'BELL\x07' 65535 nothing
+same save-long save samples/moved-catalog.dsk LONG 16384 long --out outs/long.dsk
+run get outs/long.dsk LONG got
+holds save-long-bytes cmp long got
+rm got
+same save-long-list list outs/long.dsk
+rm -f outs/other.dsk outs/third.dsk outs/long.dsk
+
+# what is refused leaves the disk as it was
+cp outs/disk.dsk before.dsk
+same save-taken save outs/disk.dsk 'LINE 7 RING 8' 8192 ring
+same save-too-long save outs/disk.dsk NEW 8192 longest
+same save-no-name save outs/disk.dsk '' 8192 ring
+same save-name-of-31 save outs/disk.dsk 'A NAME THAT HAS MORE THAN 30 BYTES' 8192 ring
+same save-high-name save outs/disk.dsk 'HIGH\xc1' 8192 ring
+same save-zero-name save outs/disk.dsk 'ZERO\x00' 8192 ring
+same save-space-name save outs/disk.dsk 'SPACE ' 8192 ring
+same delete-missing delete outs/disk.dsk 'LINE 9'
+same delete-no-name delete outs/disk.dsk ''
+same delete-space-name delete outs/disk.dsk 'LINE 7 RING 8 '
+holds refused-kept cmp before.dsk outs/disk.dsk
+same save-line-7 save outs/disk.dsk 'LAST LINE' 8192 ring
+cp outs/disk.dsk before.dsk
+same save-no-line save outs/disk.dsk 'NO LINE' 8192 nothing
+holds save-no-line-kept cmp before.dsk outs/disk.dsk
+cp samples/full.dsk outs/full.dsk
+same save-full save outs/full.dsk 'LINE 0' 8192 ring
+same delete-full delete outs/full.dsk 'LINE 1 RING 3'
+same save-no-sector save outs/full.dsk 'LINE 0' 8192 long
+same save-full-again save outs/full.dsk 'LINE 0' 8192 ring
+for disk in crossed ring thirteen; do
+    cp "samples/$disk.dsk" outs/disk-too.dsk
+    same "save-$disk" save outs/disk-too.dsk '' 8192 ring
+    same "delete-$disk" delete outs/disk-too.dsk 'LINE 7 RING 1'
+    holds "save-$disk-kept" cmp "samples/$disk.dsk" outs/disk-too.dsk
+done
+cp samples/one-page.nib outs/one.nib
+same save-nibbles save outs/one.nib 'LINE 7 RING 8' 8192 ring
+same delete-nibbles delete outs/one.nib 'LINE 7 RING 1' --out outs/none
+holds save-nibbles-kept cmp samples/one-page.nib outs/one.nib
+holds save-nothing-left not test -e outs/none
+
+# delete
+cp saved.dsk outs/disk.dsk
+same delete-line delete outs/disk.dsk 'LINE 7 RING 1'
+same delete-line-list list outs/disk.dsk
+same delete-again delete outs/disk.dsk 'LINE 7 RING 1'
+same save-deleted-line save outs/disk.dsk 'LINE 7 RING 1' 8192 ring
+same save-deleted-line-list list outs/disk.dsk
+same delete-text delete outs/disk.dsk 'SHIFT NOTES' --out outs/other.dsk
+same delete-last-of-name delete samples/several-pages.dsk 'LINE 1 RING 1' --out outs/several.dsk
+run get outs/several.dsk 'LINE 1 RING 1' got
+run get samples/several-pages.dsk --all outs/all
+holds delete-last-of-name-bytes cmp got 'outs/all/LINE 1 RING 1~1'
+rm -rf got outs/all
+
+# the file that is replaced: a link stays, a pipe is none, and a failure half way leaves the old one
+ln -s disk.dsk outs/link.dsk
+ln -s link.dsk outs/second.dsk
+cp saved.dsk outs/disk.dsk
+run delete outs/second.dsk 'LINE 7 RING 8'
+holds replace-link test "$status $(readlink outs/second.dsk) $(readlink outs/link.dsk)" = '0 link.dsk disk.dsk'
+run get outs/disk.dsk 'LINE 7 RING 8' got
+holds replace-link-done test "$status" = 1
+"$root/linefiles" delete <(cat saved.dsk) 'LINE 7 RING 8' >out 2>err
+holds replace-pipe grep -q 'is a pipe, a device or a socket, and no file;$' err
+cp saved.dsk outs/disk.dsk
+(
+    ulimit -f 8
+    "$root/linefiles" delete outs/disk.dsk 'LINE 7 RING 8'
+    echo "status $?"
+) >half.out 2>half.err
+holds replace-half test "$(cat half.err) $(tail -n 1 half.out)" = 'linefiles: cannot write outs/disk.dsk: File too large status 2'
+holds replace-half-kept cmp saved.dsk outs/disk.dsk
+holds replace-tidy tidy "disk-too.dsk disk.dsk full.dsk link.dsk one.nib other.dsk second.dsk several.dsk "
+chmod a-w outs/disk.dsk
+if [ "$(id -u)" -ne 0 ]; then same replace-read-only delete outs/disk.dsk 'LINE 7 RING 8'; fi
+same save-no-disk save outs/nosuch.dsk NAME 8192 ring
+same save-no-file save saved.dsk NAME 8192 nosuch
+same save-folder save saved.dsk NAME 8192 outs
+for address in 65536 -1 '' 12x '$' 0x '$10000' 99999999999999999999; do
+    run save saved.dsk NAME --out outs/none -- "$address" ring
+    holds "save-address-$address" test "$status $(cat err)" = "2 linefiles: $address is no address; one is 0 to 65535, or \$0 to \$FFFF"
+done
+same save-few-words save saved.dsk NAME 8192
+same save-many-words save saved.dsk NAME 8192 ring outs/none
+same delete-few-words delete saved.dsk
+same delete-force delete saved.dsk NAME --force
+same delete-13 delete saved.dsk NAME --13
+same list-out list saved.dsk --out outs/none
+rm -rf outs/*
+
 # archive, check, show
 same archive-one-page archive samples/one-page.dsk outs/flat.arc
 same archive-one-page-nibbles archive samples/one-page.nib outs/nibbles.arc
@@ -943,6 +1070,8 @@ if [ -w /dev/full ]; then
     full full-archive archive samples/one-page.dsk outs/written
     full full-check check samples/one-page.dsk outs/written
     full full-show show outs/written
+    cp samples/one-page.dsk outs/changed.dsk
+    full full-delete delete outs/changed.dsk 'LINE 7 RING 1'
 fi
 if [ "$(id -u)" -ne 0 ]; then # root may read and write all
     chmod a-w outs

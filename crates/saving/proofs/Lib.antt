@@ -3,3 +3,4 @@ pub mod Names
 pub mod Looks
 pub mod Freeing
 pub mod Calls
+pub mod Calling

@@ -66,7 +66,7 @@ pub tidy-size : (d : List ℕ) → (length d ≡ 143360 → ⊥) → 1 ≡ numbe
 unfolding tidy contents catalog pages readable sized
 tidy-size d h = rw (ne-eqb _ _ h) refl
 
-per-is : (d : List ℕ) → length d ≡ 143360 → perOf d ≡ 16
+pub per-is : (d : List ℕ) → length d ≡ 143360 → perOf d ≡ 16
 unfolding perOf
 per-is d l = rw (ne-eqb (length d) 116480 (λ q. omega arith)) refl
 
