@@ -325,8 +325,6 @@ same delete-missing delete outs/disk.dsk 'LINE 9'
 same delete-no-name delete outs/disk.dsk ''
 same delete-space-name delete outs/disk.dsk 'LINE 7 RING 8 '
 holds refused-kept cmp before.dsk outs/disk.dsk
-same save-line-7 save outs/disk.dsk 'LAST LINE' 8192 ring
-cp outs/disk.dsk before.dsk
 same save-no-line save outs/disk.dsk 'NO LINE' 8192 nothing
 holds save-no-line-kept cmp before.dsk outs/disk.dsk
 cp samples/full.dsk outs/full.dsk
@@ -354,11 +352,12 @@ same delete-again delete outs/disk.dsk 'LINE 7 RING 1'
 same save-deleted-line save outs/disk.dsk 'LINE 7 RING 1' 8192 ring
 same save-deleted-line-list list outs/disk.dsk
 same delete-text delete outs/disk.dsk 'SHIFT NOTES' --out outs/other.dsk
-same delete-last-of-name delete samples/several-pages.dsk 'LINE 1 RING 1' --out outs/several.dsk
-run get outs/several.dsk 'LINE 1 RING 1' got
-run get samples/several-pages.dsk --all outs/all
-holds delete-last-of-name-bytes cmp got 'outs/all/LINE 1 RING 1~1'
-rm -rf got outs/all
+same delete-last-of-name delete --out outs/several.dsk samples/alike.dsk A
+run get samples/alike.dsk --all outs/all
+run get outs/several.dsk --all outs/less
+holds delete-last-of-name-left test "$(ls outs/all | grep -c '^A~') $(ls outs/less | grep -c '^A$')" = '2 1'
+holds delete-last-of-name-bytes cmp outs/all/A~1 outs/less/A
+rm -rf outs/all outs/less
 
 # the file that is replaced: a link stays, a pipe is none, and a failure half way leaves the old one
 ln -s disk.dsk outs/link.dsk
@@ -385,12 +384,13 @@ same save-no-disk save outs/nosuch.dsk NAME 8192 ring
 same save-no-file save saved.dsk NAME 8192 nosuch
 same save-folder save saved.dsk NAME 8192 outs
 for address in 65536 -1 '' 12x '$' 0x '$10000' 99999999999999999999; do
-    run save saved.dsk NAME --out outs/none -- "$address" ring
-    holds "save-address-$address" test "$status $(cat err)" = "2 linefiles: $address is no address; one is 0 to 65535, or \$0 to \$FFFF"
+    run save --out outs/none -- saved.dsk NAME "$address" ring
+    holds "save-address-$address" test "$status $(tail -n 1 err)" = "2 linefiles: ${address:-''} is no address; one is 0 to 65535, or \$0 to \$FFFF"
 done
 same save-few-words save saved.dsk NAME 8192
 same save-many-words save saved.dsk NAME 8192 ring outs/none
 same delete-few-words delete saved.dsk
+same delete-no-out delete saved.dsk NAME --out
 same delete-force delete saved.dsk NAME --force
 same delete-13 delete saved.dsk NAME --13
 same list-out list saved.dsk --out outs/none

@@ -123,10 +123,24 @@ fn end_of_options(first: usize) -> usize {
     after(first, 16)
 }
 
-// The option that argument i is, where the options end at `end`.
+// What stands behind --out is its value, and neither a word nor an option.
+const VALUE: u8 = 255;
+
+// Argument i stands behind --out.
+fn is_value(i: usize) -> bool {
+    if i == 0 {
+        return false;
+    }
+    option_of(i - 1) == OUT
+}
+
+// The option that argument i is, where the options end at `end`; a value is no option either.
 fn option_before(end: usize, i: usize) -> u8 {
     if end < i {
         return 0;
+    }
+    if is_value(i) {
+        return VALUE;
     }
     option_of(i)
 }
@@ -163,6 +177,23 @@ pub fn has_option(first: usize, option: u8) -> bool {
     false
 }
 
+// The value of --out into buf: its length.
+pub fn out_value(first: usize, buf: &mut [u8]) -> usize {
+    let end = end_of_options(first);
+    for i in 0..16usize {
+        let at = after(first, i);
+        if option_before(end, at) == VALUE {
+            return os::arg(at, buf);
+        }
+    }
+    0
+}
+
+// --out is said, and nothing stands behind it.
+fn lacks_value(first: usize) -> bool {
+    has_option(first, OUT) & is_value(os::arg_count())
+}
+
 // The sectors a track that an option says, 0 where none does.
 pub fn said(first: usize) -> u8 {
     if has_option(first, AS_13) {
@@ -177,14 +208,6 @@ pub fn said(first: usize) -> u8 {
 // The word is `-`, which stands for standard input or standard output.
 pub fn is_dash(w: &[u8]) -> bool {
     lists::same(w, b"-")
-}
-
-// Word k is the name of the output where --out is said.
-fn out_behind(first: usize, k: usize) -> usize {
-    if has_option(first, OUT) {
-        return k;
-    }
-    0
 }
 
 // Where a command has the name of its output among its words, 0 where it has none. That of `get --all` is a folder.
@@ -202,8 +225,6 @@ pub fn out_word(command: u8, first: usize) -> usize {
             }
             0
         }
-        SAVE => out_behind(first, 5),
-        DELETE => out_behind(first, 3),
         ARCHIVE | NIBBLIZE | DENIBBLIZE => 2,
         _ => 0,
     }
@@ -225,18 +246,7 @@ fn wants(command: u8, first: usize) -> usize {
             }
             3
         }
-        SAVE => {
-            if has_option(first, OUT) {
-                return 5;
-            }
-            4
-        }
-        DELETE => {
-            if has_option(first, OUT) {
-                return 3;
-            }
-            2
-        }
+        SAVE => 4,
         _ => 2,
     }
 }
@@ -254,7 +264,7 @@ fn words(first: usize) -> usize {
 
 // The number of words behind a command is what it wants.
 pub fn has_words(command: u8, first: usize) -> bool {
-    words(first) == wants(command, first)
+    (words(first) == wants(command, first)) & !lacks_value(first)
 }
 
 // The argument is longer than any that is taken.
@@ -285,7 +295,7 @@ fn odd_place(first: usize) -> usize {
     let end = end_of_options(first);
     for i in 0..16usize {
         let at = after(first, i);
-        if (at < end) & is_odd(at) {
+        if (at < end) & (is_odd(at) & !is_value(at)) {
             return at;
         }
     }

@@ -171,20 +171,20 @@ fn tell_space(disk: &[u8], size: usize) {
 }
 
 // Says why a disk is not changed.
-fn tell_why(disk: &[u8], why: u8, shown: &[u8], name: &[u8], size: usize) {
+fn tell_why(disk: &[u8], why: u8, name: &[u8], size: usize) {
     tell(b"\n  ");
     match why {
         NOT_CLEAN => tell(b"linefiles crossed shows which sectors are shared, or held but free"),
         UNWRITABLE_NAME => tell_name(name),
         NAME_TAKEN => {
             tell(b"a file is named ");
-            names::path(STDERR_FILENO, shown);
+            names::name(STDERR_FILENO, name);
             tell(b"; linefiles delete deletes it");
         }
         NO_SPACE => tell_space(disk, size),
         _ => {
             tell(b"no file is named ");
-            names::path(STDERR_FILENO, shown);
+            names::name(STDERR_FILENO, name);
         }
     }
     tell(b"\n");
@@ -200,19 +200,19 @@ fn is_older(disk: &[u8]) -> bool {
     true
 }
 
-fn refuse(disk: &[u8], why: u8, shown: &[u8], name: &[u8], size: usize) -> u8 {
+fn refuse(disk: &[u8], why: u8, name: &[u8], size: usize) -> u8 {
     if why < 7 {
         return file_walk::refuse(disk, why);
     }
     refusal(STDERR_FILENO, why);
-    tell_why(disk, why, shown, name, size);
+    tell_why(disk, why, name, size);
     REFUSED
 }
 
 // What was saved.
-fn tell_saved(fd: i32, shown: &[u8], at: u16, size: usize) {
+fn tell_saved(fd: i32, name: &[u8], at: u16, size: usize) {
     text(fd, b"saved ");
-    names::path(fd, shown);
+    names::name(fd, name);
     text_number(fd, b" at address ", at as u64);
     text(fd, b": ");
     count(fd, size as u64, b"byte", b"bytes");
@@ -251,11 +251,11 @@ fn save_bytes(
     let mut image = disk_space();
     let why = save_to(&mut image, disk, name, at, data);
     if why != 0 {
-        return refuse(disk, why, shown, name, data.len());
+        return refuse(disk, why, name, data.len());
     }
     let status = write_disk(&image, to, over, force);
     if status == GOOD {
-        tell_saved(notes_to(to), shown, at, data.len());
+        tell_saved(notes_to(to), name, at, data.len());
     }
     status
 }
@@ -307,13 +307,13 @@ pub fn delete(disk: &[u8], shown: &[u8], to: &[u8], over: bool, force: bool) -> 
     let mut image = disk_space();
     let why = delete_from(&mut image, disk, name);
     if why != 0 {
-        return refuse(disk, why, shown, name, 0);
+        return refuse(disk, why, name, 0);
     }
     let status = write_disk(&image, to, over, force);
     if status == GOOD {
         let fd = notes_to(to);
         text(fd, b"deleted ");
-        names::path(fd, shown);
+        names::name(fd, name);
         text(fd, b"\n");
     }
     status

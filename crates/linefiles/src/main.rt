@@ -26,6 +26,7 @@ use arguments::has_long;
 use arguments::has_option;
 use arguments::has_words;
 use arguments::is_dash;
+use arguments::out_value;
 use arguments::out_word;
 use arguments::said;
 use arguments::unknown_command;
@@ -186,10 +187,10 @@ fn nibblize(disk: &[u8], first: usize) -> u8 {
     save_word(first, 2, lists::part(&out, 0, h.length))
 }
 
-// Where a changed disk goes: the word behind --out, or where it came from. Its length.
-fn way_out(command: u8, from: &[u8], first: usize, to: &mut [u8]) -> usize {
+// Where a changed disk goes: what stands behind --out, or where it came from. Its length.
+fn way_out(from: &[u8], first: usize, to: &mut [u8]) -> usize {
     if has_option(first, OUT) {
-        return word(first, out_word(command, first), to);
+        return out_value(first, to);
     }
     lists::copy_at(from, to, 0);
     from.len()
@@ -203,7 +204,7 @@ fn save(from: &[u8], disk: &[u8], first: usize) -> u8 {
     let mut file = io::buffer();
     let l = word(first, 4, &mut file);
     let mut to = io::buffer();
-    let m = way_out(SAVE, from, first, &mut to);
+    let m = way_out(from, first, &mut to);
     changing::save(
         disk,
         lists::part(&name, 0, n),
@@ -219,7 +220,7 @@ fn delete(from: &[u8], disk: &[u8], first: usize) -> u8 {
     let mut name = io::buffer();
     let n = word(first, 2, &mut name);
     let mut to = io::buffer();
-    let m = way_out(DELETE, from, first, &mut to);
+    let m = way_out(from, first, &mut to);
     changing::delete(
         disk,
         lists::part(&name, 0, n),
@@ -253,9 +254,19 @@ fn has_dash(first: usize, k: usize) -> bool {
     is_dash(lists::part(&w, 0, n))
 }
 
+// The output is standard output.
+fn out_is_dash(command: u8, first: usize) -> bool {
+    if !changes(command) {
+        return has_dash(first, out_word(command, first));
+    }
+    let mut w = io::buffer();
+    let n = out_value(first, &mut w);
+    is_dash(lists::part(&w, 0, n))
+}
+
 // Where it is said what was read: on standard output, or on standard error where the output itself goes there.
 fn notes_to(command: u8, first: usize) -> i32 {
-    if has_dash(first, out_word(command, first)) {
+    if out_is_dash(command, first) {
         return STDERR_FILENO;
     }
     STDOUT_FILENO

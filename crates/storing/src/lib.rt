@@ -320,7 +320,8 @@ fn write_beside(part: &[u8], path: &[u8], bytes: &[u8]) -> bool {
     false
 }
 
-// Writes the bytes beside the file that is open at fd, and gives them its name. Where that fails, the old file stands as it was.
+// Writes the bytes beside the file that is open at fd, and gives them its name. Where that fails, the old file stands as it was. A link stays, and the file to which it
+// leads is replaced.
 fn swap(fd: i32, path: &[u8], bytes: &[u8]) -> u8 {
     let end = libc::lseek(fd, 0, SEEK_END);
     if libc::ftruncate(fd, end) != 0 {
@@ -330,29 +331,29 @@ fn swap(fd: i32, path: &[u8], bytes: &[u8]) -> u8 {
         );
         return TROUBLE;
     }
+    let mut own = io::buffer();
+    let k = file_path(path, &mut own);
+    if 3900 < k {
+        tell(b"linefiles: the name of the disk is too long\n");
+        return TROUBLE;
+    }
+    let file = lists::part(&own, 0, k);
     let mut name = io::buffer();
-    let n = part_name(path, &mut name);
-    if write_beside(lists::part(&name, 0, n), path, bytes) {
+    let n = part_name(file, &mut name);
+    if write_beside(lists::part(&name, 0, n), file, bytes) {
         return GOOD;
     }
     TROUBLE
 }
 
-// Replaces a file that is there, whole or not at all: the exit status, 0 or 2. A link stays, and the file to which it leads is replaced.
+// Replaces a file that is there, whole or not at all: the exit status, 0 or 2.
 pub fn replace_file(path: &[u8], bytes: &[u8]) -> u8 {
-    let mut name = io::buffer();
-    let n = file_path(path, &mut name);
-    let file = lists::part(&name, 0, n);
-    if 3900 < n {
-        tell(b"linefiles: the name of the disk is too long\n");
-        return TROUBLE;
-    }
-    let fd = os::open_update(file);
+    let fd = os::open_update(path);
     if fd < 0 {
         cannot(b"write", path);
         return TROUBLE;
     }
-    let status = swap(fd, file, bytes);
+    let status = swap(fd, path, bytes);
     libc::close(fd);
     status
 }

@@ -19,6 +19,7 @@ odd-place-spec =
     (λ c. search needs)  -- loop-holds
     (λ c κs. search needs)  -- after-requires
     (λ c κs. search needs)  -- is-odd-requires
+    (λ c κs. search needs)  -- is-value-requires
     (λ c. search needs)  -- returns
     (λ c. search needs)  -- add-i
     (λ c. search needs)  -- loop-less
