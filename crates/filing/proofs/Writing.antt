@@ -10,9 +10,9 @@ use borrow.Author.Tests.{le-leb, lt-leb}
 use borrow.Author.Needs.{needs}
 use Rattle.lists.specs.Fill.{padded, placed}
 use Rattle.lists.specs.Words.{le2}
-use Rattle.lists.proofs.Laws.{drop-zeros, placed-zeros}
+use Rattle.lists.proofs.Laws.{placed-zeros}
 use Rattle.lists.proofs.Placed.{length-placed}
-use Rattle.lists.proofs.Put.{Put, placed-put, put-more, put-front}
+use Rattle.lists.proofs.Put.{Put, placed-put, put-more, put-zeros}
 use Rattle.disk.specs.declared.Place.{Place}
 use Rattle.disk.specs.Disk.{place, start}
 use Rattle.records.specs.Records.{fileRecord}
@@ -38,11 +38,6 @@ module _ (n : ℕ) (z : List ℕ) (ez : z ≡ replicate n 0) where
   more-run : (x y a o : List ℕ) (i : ℕ) → Put 0 x z a → o ≡ placed i y a → i ≡ length x → i + length y ≤ n → Put 0 (x ++ y) z o
   more-run x y a o i p e q h = put-more p (placed-put e (omega (arith, long, p .long))) (omega arith) (omega (arith, long))
 
-  -- behind them stand zeros
-  runs-done : (x o : List ℕ) → Put 0 x z o → o ≡ padded n x
-  unfolding padded
-  runs-done x o p = put-front p ∙ rw (ez, drop-zeros (length x) n) refl
-
 -- ---- a list
 pub list-made : (P : List ℕ) (j t s : ℕ) (q z a o : List ℕ) → t ≡ getD P (246 * (j + 1)) 0 → s ≡ getD P (246 * (j + 1) + 1) 0 → z ≡ replicate 256 0
     → a ≡ placed 0 (0 ∷ t ∷ s ∷ 0 ∷ 0 ∷ 122 * j % 256 ∷ 122 * j / 256 % 256 ∷ 0 ∷ 0 ∷ 0 ∷ 0 ∷ 0 ∷ []) z → q ≡ take 244 (drop (246 * j + 2) P)
@@ -51,7 +46,7 @@ unfolding listIn
 list-made P j t s q z a o et es ez ea eq eo =
     let l : length q ≤ 244 = rw (eq, length-take) (omega arith) in
     let p = run 256 z ez _ a ea (omega arith) in
-    record { is = runs-done 256 z ez _ o (more-run 256 z ez _ q a o 12 p eo refl (omega arith)) ∙ rw (et, es, eq) refl }
+    record { is = put-zeros 256 ez (more-run 256 z ez _ q a o 12 p eo refl (omega arith)) ∙ rw (et, es, eq) refl }
 
 pub ruleset listMakes = (list-made, needs)
 
@@ -75,7 +70,7 @@ module _ (address : ℕ) (bytes : List ℕ) (z : List ℕ) (ez : z ≡ replicate
       let l : length q ≤ 252 = rw (eq, length-take) (omega arith) in
       let p : Put 0 (le2 address) z a = run 256 z ez _ a ea (omega arith) in
       let r : Put 0 (le2 address ++ le2 (length bytes)) z b = more-run 256 z ez _ _ a b 2 p eb refl (omega arith) in
-      record { is = runs-done 256 z ez _ o (more-run 256 z ez _ q b o 4 r eo refl (omega arith)) ∙ rw (ek, eq) refl }
+      record { is = put-zeros 256 ez (more-run 256 z ez _ q b o 4 r eo refl (omega arith)) ∙ rw (ek, eq) refl }
 
   pub data-more : (k : ℕ) (q o : List ℕ) → (k ≡ 0 → ⊥) → q ≡ take 256 (drop (256 * k - 4) bytes) → o ≡ placed 0 q z → DataMade address bytes k o
   data-more k q o h eq eo =
