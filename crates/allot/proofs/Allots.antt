@@ -11,8 +11,7 @@ use lib.Dec.{eqb, leb}
 use borrow.Author.Tests.{eqb-true, leb-true}
 use Rattle.lists.specs.Fill.{put, padded}
 use Rattle.lists.proofs.Split.{by-test, both-true, clash}
-use Rattle.lists.proofs.Put.{Put, length-put, put-is, put-none, put-more, put-front}
-use Rattle.lists.proofs.Laws.{drop-zeros}
+use Rattle.lists.proofs.Put.{Put, length-put, put-is, put-none, put-more, put-zeros}
 use Rattle.outcome.specs.declared.Refusal.the-variants.{NoSpace}
 use Rattle.outcome.specs.Outcome.{Outcome, refused, given}
 use Rattle.outcome.proofs.Outcome.{refused-given}
@@ -171,11 +170,6 @@ flag-is k i h = flags-at (listsFor (dataFor k)) (dataFor k) i false (omega arith
     same true b = refl
     same false b = refl
 
--- put into zeros
-zeros : (n : ℕ) (P x o : List ℕ) → P ≡ replicate n 0 → Put 0 x P o → o ≡ padded n x
-unfolding padded
-zeros n P x o e p = put-front p ∙ rw (e, drop-zeros (length x) n) refl
-
 -- the places of a save have room in 262 bytes
 pub places-fit : (k : ℕ) → k ≤ 32768 → 2 * (listsFor (dataFor k) + dataFor k) ≤ 262
 places-fit k h = omega arith
@@ -217,6 +211,6 @@ module _ (d : List ℕ) (size : length d ≡ 256 * sectors 16) (k m n : ℕ) (T 
       let p : P′ ≡ takeAll m T P .places = ap (λ (a : Allotment). a .places) is-all in (
         g .0,
         g .1 ∙ ap (λ (x : List ℕ). given (g .0, put (start 16 vtoc) x d)) t,
-        p ∙ zeros n P (flatMap placeBytes (s .0)) (takeAll m T P .places) blank (s .2) ∙ ap (λ (ps : List Place). padded n (flatMap placeBytes ps)) (sym (g .2)),
+        p ∙ put-zeros n blank (s .2) ∙ ap (λ (ps : List Place). padded n (flatMap placeBytes ps)) (sym (g .2)),
         table-long m T P T′ P′ r h ∙ long,
       )

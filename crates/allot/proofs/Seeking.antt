@@ -17,6 +17,7 @@ use Rattle.disk.specs.Disk.{place}
 use Rattle.holders.specs.Holders.{bit}
 use Rattle.amend.specs.Lines.{firstOf}
 use Rattle.amend.specs.Search.{Spot, upFrom, downFrom, toEdge, opposite, route, directionOf, trackOf, spotsOf}
+use Rattle.amend.proofs.Lines.{map-is-tab}
 use Rattle.allot.specs.declared.Found.{Found}
 use Rattle.allot.specs.Table.{mapIn, openIn, takableIn, seekIn}
 use Rattle.allot.specs.Steps.{topOf, legIn, foundAt, nothing, asFound, Topped, Legged, Sought}
@@ -122,11 +123,6 @@ module _ (T : List ℕ) (later : Bool) where
   track-none dir t k o h e = rw (track-top dir t k h, e) refl
 
   -- the tracks above
-  up-map : (f : ℕ → ℕ) (g : ℕ → ℕ) (n : ℕ) → map f (tab g n) ≡ tab (λ k. f (g k)) n
-  unfolding tab
-  up-map f g zero = refl
-  up-map f g (suc n) = ap (λ (l : List ℕ). f (g 0) ∷ l) (up-map f (λ k. g (suc k)) n)
-
   up-next : (t : ℕ) → t < 35 → upFrom t ≡ t ∷ upFrom (t + 1)
   unfolding upFrom tab
   up-next t h =
@@ -134,8 +130,8 @@ module _ (T : List ℕ) (later : Bool) where
       let z : t + 0 ≡ t = omega arith in
       rw e
       (ap (λ (l : List ℕ). (t + 0) ∷ l)
-      (up-map (λ k. t + k) (λ k. suc k) (35 - (t + 1)) ∙ tab-ext (λ k. t + suc k) (λ k. t + 1 + k) (35 - (t + 1)) (λ k l. omega arith)
-      ∙ sym (up-map (λ k. t + 1 + k) (λ k. k) (35 - (t + 1))))
+      (map-is-tab (λ k. t + k) (λ k. suc k) (35 - (t + 1)) ∙ tab-ext (λ k. t + suc k) (λ k. t + 1 + k) (35 - (t + 1)) (λ k l. omega arith)
+      ∙ sym (map-is-tab (λ k. t + 1 + k) (λ k. k) (35 - (t + 1))))
       ∙ ap (λ (x : ℕ). x ∷ map (λ k. t + 1 + k) (below (35 - (t + 1)))) z)
 
   up-end : (t : ℕ) → 35 ≤ t → upFrom t ≡ []

@@ -59,7 +59,7 @@ spread-split (y ∷ a) x b s =
     here (z ∷ l) (Every.more h e) = here l e
 
 -- lines by a rule
-map-is-tab : (f g : ℕ → ℕ) (m : ℕ) → map f (tab g m) ≡ tab (λ k. f (g k)) m
+pub map-is-tab : (f g : ℕ → ℕ) (m : ℕ) → map f (tab g m) ≡ tab (λ k. f (g k)) m
 unfolding tab
 map-is-tab f g zero = refl
 map-is-tab f g (suc m) = ap (λ (l : List ℕ). f (g zero) ∷ l) (map-is-tab f (λ k. g (suc k)) m)

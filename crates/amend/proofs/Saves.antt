@@ -42,6 +42,7 @@ use Rattle.amend.specs.Save.{Part, Write, dataFor, listsFor, takeFor, fi
 use Rattle.amend.specs.Amending.{fileSaved}
 use Rattle.amend.proofs.Puts.{bytes-put, byte-same}
 use Rattle.amend.proofs.Takes.{Taker, Taking, Shaped, shaped-data, take-for, in-order, order-takes}
+use Rattle.amend.proofs.Marks.{bytes-two}
 use Rattle.amend.proofs.Seeks.{found-given}
 use Rattle.amend.proofs.Lines.{Within, lineHolds}
 use Rattle.amend.proofs.Reading.{Reading, given-same}
@@ -124,15 +125,10 @@ record-bytes : (p : Place) (name : List ℕ) (count : ℕ) → p .track .0 < 256
 unfolding entryRecord kindOf
 record-bytes p name count h l w =
     let f : Bytes (nameField name) = rw (field-is name (writable-short name w)) (high-bytes name (30 - length name) (writable-low name w)) in
-    let c : Bytes (le2 count) = two-bytes (count % 256) (count / 256 % 256) (omega arith) (omega arith) in
+    let c : Bytes (le2 count) = bytes-two (count % 256) (count / 256 % 256) (omega arith) (omega arith) in
     let t : List ℕ = nameField name ++ le2 count in
     at-cons (λ x. x < 256) (p .track .0) (p .sector .0 ∷ 4 ∷ t) h
     (at-cons (λ x. x < 256) (p .sector .0) (4 ∷ t) l (at-cons (λ x. x < 256) 4 t (omega arith) (bytes-append (nameField name) (le2 count) f c)))
-  where
-    two-bytes : (a b : ℕ) → a < 256 → b < 256 → Bytes (a ∷ b ∷ [])
-    two-bytes a b h l zero = h
-    two-bytes a b h l (suc zero) = l
-    two-bytes a b h l (suc (suc k)) = omega arith
 
 -- what was put in is there
 pub put-cut : (x : ℕ) (w m : List ℕ) → x ≤ length m → take (length w) (drop x (put x w m)) ≡ w

@@ -7,8 +7,8 @@ use lib.ListN.{length, take, drop, replicate, length-take, length-append}
 use borrow.Author.Needs.{needs}
 use Rattle.lists.specs.Fill.{padded, placed}
 use Rattle.lists.specs.Words.{le2, le3}
-use Rattle.lists.proofs.Laws.{length-padded, placed-zeros, drop-zeros}
-use Rattle.lists.proofs.Put.{Put, placed-put, put-more, put-front}
+use Rattle.lists.proofs.Laws.{length-padded, placed-zeros}
+use Rattle.lists.proofs.Put.{Put, placed-put, put-more, put-zeros}
 use Rattle.archive.specs.Archive.{entryBlock, firstBlock}
 use Rattle.catalog.specs.declared.Name.{Name}
 use Rattle.catalog.specs.Catalog.{shown}
@@ -19,11 +19,6 @@ use Rattle.archive.specs.Blocks.{entryBytes}
 -- no more than was asked for
 short : (n : ℕ) (x : List ℕ) → length (take n x) ≤ n
 short n x = rw length-take (omega arith)
-
--- what was put in front of zeros
-in-zeros : (n : ℕ) (x z o : List ℕ) → z ≡ replicate n 0 → Put 0 x z o → o ≡ padded n x
-unfolding padded
-in-zeros n x z o e p = put-front p ∙ rw (e, drop-zeros (length x) n) refl
 
 -- block 0
 pub first-made : (volume next blocks : ℕ) (z o : List ℕ) → z ≡ replicate 256 0
@@ -63,6 +58,6 @@ entry-made next first size kind locked count raw x w z a b c o e g p q r h k =
     let l₃ : 42 ≡ 0 + length ((H ++ F) ++ T) = omega (arith, length-append (H ++ F) T) in
     let q₄ : Put 42 X c o = placed-put k₀ (omega (arith, p₃ .long)) in
     let p₄ : Put 0 (((H ++ F) ++ T) ++ X) z o = put-more p₃ q₄ l₃ (omega arith) in
-    in-zeros 256 (((H ++ F) ++ T) ++ X) z o e p₄ ∙ rw (append-assoc (H ++ F) T X, append-assoc H F (T ++ X)) refl
+    put-zeros 256 e p₄ ∙ rw (append-assoc (H ++ F) T X, append-assoc H F (T ++ X)) refl
 
 pub ruleset making = (first-made, entry-made, needs)

@@ -20,11 +20,13 @@ use Rattle.lists.proofs.Put.{placed-put}
 use Rattle.disk.specs.declared.Place.{Place}
 use Rattle.disk.specs.Disk.{place, start, onDisk, sectors}
 use Rattle.files.specs.Contents.{placeBytes}
+use Rattle.files.proofs.PairCalls.{length-two}
 use Rattle.records.specs.Records.{fileRecord}
 use Rattle.amend.specs.Save.{Part, Write, dataFor, listsFor, firstList, sectorsIn, dataOf, listSector, listWrites, dataWrites, written, fileWrites}
 use Rattle.amend.proofs.Puts.{sector-fits}
 use Rattle.amend.proofs.Takes.{Shaped, shaped-data}
-use Rattle.amend.proofs.Writes.{length-pairs, length-list, listFront}
+use Rattle.amend.proofs.Writes.{length-list, listFront}
+use Rattle.amend.proofs.Pairs.{track-at, sector-at}
 use Rattle.filing.specs.Filing.{placeIn, listIn, withLists, dataIn, withData, filed}
 
 -- ---- lengths
@@ -46,20 +48,6 @@ filed-long P address bytes d =
     by-test (leb (length bytes) 32768)
     (λ e. rw e (length-data P _ (dataFor (length bytes)) _ ∙ length-lists P (listsFor (dataFor (length bytes))) d))
     (λ e. rw e refl)
-
--- ---- places as pairs of bytes
--- pair i in its two bytes; past the last stands 0/0
-track-at : (ps : List Place) (i : ℕ) → getD (flatMap placeBytes ps) (2 * i) 0 ≡ getD ps i (place 0 0) .track .0
-unfolding flatMap
-track-at [] i = refl
-track-at (p ∷ ps) zero = refl
-track-at (p ∷ ps) (suc i) = let e : 2 * suc i ≡ suc (suc (2 * i)) = omega arith in rw e (track-at ps i)
-
-sector-at : (ps : List Place) (i : ℕ) → getD (flatMap placeBytes ps) (2 * i + 1) 0 ≡ getD ps i (place 0 0) .sector .0
-unfolding flatMap
-sector-at [] i = refl
-sector-at (p ∷ ps) zero = refl
-sector-at (p ∷ ps) (suc i) = let e : 2 * suc i + 1 ≡ suc (suc (2 * i + 1)) = omega arith in rw e (sector-at ps i)
 
 -- ---- parts whose sectors are all on the disk, m data sectors in lists of 122
 record Fit (m : ℕ) (gs : List Part) : Type 0 where
@@ -126,7 +114,7 @@ module _ (P : List ℕ) where
   behind-pairs m j g (g′ ∷ gs) f b i h =
       let e : 246 * j + 2 + i ≡ 246 * j + suc (suc i) = omega arith in
       let rest : List Place = sectorsIn (g′ ∷ gs) in
-      let l = length-pairs (g .pairs) in
+      let l = length-two (g .pairs) in
       let l′ = pairs-full m g g′ gs f in
       rw e
       (b .is (suc (suc i)) ∙ ap (λ (t : List ℕ). getD t i 0) (flatMap-append placeBytes (g .pairs) rest)
@@ -140,7 +128,7 @@ module _ (P : List ℕ) where
         is = λ i.
             let e : 246 * suc j + i ≡ 246 * j + (246 + i) = omega arith in
             let here : List Place = sectorsIn (g ∷ []) in
-            let l = length-pairs here in
+            let l = length-two here in
             let n = length-append (g .list ∷ g .pairs) [] in
             rw e (b .is (246 + i) ∙ List·getD-eq-default (flatMap placeBytes here) 0 {n = 246 + i} (omega (arith, pairs-few m g [] f)));
       }
@@ -149,7 +137,7 @@ module _ (P : List ℕ) where
         is = λ i.
             let rest : List Place = sectorsIn (g′ ∷ gs) in
             let here : List ℕ = flatMap placeBytes (g .list ∷ g .pairs) in
-            let l : length here ≡ 246 = length-pairs (g .list ∷ g .pairs) ∙ omega (arith, pairs-full m g g′ gs f) in
+            let l : length here ≡ 246 = length-two (g .list ∷ g .pairs) ∙ omega (arith, pairs-full m g g′ gs f) in
             let e : 246 * suc j + i ≡ 246 * j + (length here + i) = omega arith in
             rw e
             (b .is (length here + i) ∙ ap (λ (t : List ℕ). getD t (length here + i) 0) (flatMap-append placeBytes (g .list ∷ g .pairs) rest)
@@ -186,7 +174,7 @@ module _ (P : List ℕ) where
       let x : 2 * (123 * (j + 1)) ≡ 246 * (j + 1) = omega arith in
       let t : getD P (246 * (j + 1)) 0 ≡ firstList gs .track .0 = ap (λ (i : ℕ). getD P i 0) (sym x) ∙ ap (λ (p : Place). p .track .0) n in
       let s : getD P (246 * (j + 1) + 1) 0 ≡ firstList gs .sector .0 = ap (λ (i : ℕ). getD P (i + 1) 0) (sym x) ∙ ap (λ (p : Place). p .sector .0) n in
-      let l = length-pairs (g .pairs) in
+      let l = length-two (g .pairs) in
       let few = pairs-few m g gs f in
       rw (t, s)
       (same-padded (listFront (firstList gs) (122 * j)) (take 244 (drop (246 * j + 2) P)) (flatMap placeBytes (g .pairs)) refl (rw length-take (omega arith)) (omega arith)

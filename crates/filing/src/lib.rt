@@ -3,7 +3,7 @@ ghost use mathlib.Core.Path.{_≡_};
 ghost use Prim.Native.Nat.{_<_, _≤_};
 ghost use lib.ListN.{length};
 ghost use Rattle.filing.specs.Filing.{placeIn, Filed};
-ghost use Rattle.filing.specs.Steps.{ListMade, DataMade, ListsWritten, DataWritten};
+ghost use Rattle.filing.specs.Steps.{ListMade, DataMade, DataPut, ListsWritten, DataWritten};
 use disk::Place;
 use disk::Sector;
 use disk::Track;
@@ -70,15 +70,29 @@ fn write_lists(disk: &mut [u8], places: &[u8], count: usize)
     }
 }
 
+// Writes data sector k; one that the data fill whole is copied straight from them.
+fn put_data(disk: &mut [u8], places: &[u8], address: u16, data: &[u8], k: usize)
+    requires { ⌜ (length (now «data») ≤ 32768) × (k < 129) ⌝ }
+    ensures { λ _. ⌜ DataPut (now (places .entry)) address (now («data» .entry)) k (now (disk .entry)) (now (disk .exit)) ⌝ }
+{
+    let at = sector_start(16, place_in(places, k + 1 + k / 122));
+    if k != 0 {
+        if 256 * k + 252 <= data.len() {
+            copy_at(part(data, 256 * k - 4, 256), disk, at);
+            return;
+        }
+    }
+    let sector = data_sector(address, data, k);
+    copy_at(&sector, disk, at);
+}
+
 // Writes the first data sectors.
 fn write_data(disk: &mut [u8], places: &[u8], address: u16, data: &[u8], count: usize)
     requires { ⌜ (length (now «data») ≤ 32768) × (count ≤ 129) ⌝ }
     ensures { λ _. ⌜ DataWritten (now (places .entry)) address (now («data» .entry)) count (now (disk .entry)) (now (disk .exit)) ⌝ }
 {
     for k in 0..count {
-        let sector = data_sector(address, data, k);
-        let at = sector_start(16, place_in(places, k + 1 + k / 122));
-        copy_at(&sector, disk, at);
+        put_data(disk, places, address, data, k);
     }
 }
 

@@ -16,13 +16,7 @@ write-data-spec =
     Inv-loop
     μ-loop
     (λ c. search storings)  -- loop-holds
-    (λ c κs. search storings)  -- data-sector-requires
-    (λ c. search storings)  -- add-place-in
-    (λ c. search storings)  -- add-place-in-2
-    (λ c κs. search storings)  -- place-in-requires
-    (λ c κs. search storings)  -- sector-start-requires
-    (λ c. search storings)  -- slice-aggregate-copy-at
-    (λ c κs. search storings)  -- copy-at-requires
+    (λ c κs. search storings)  -- put-data-requires
     (λ c. search storings)  -- add-k
     (λ c. search storings)  -- loop-less
     (λ c. search storings)  -- loop-again
