@@ -85,9 +85,9 @@ module _ (n : ℕ) (some′ : 0 < n) (few : n ≤ 16) where
       record { line = t .0; new = []; lineIs = t .2; newIs = refl; gone = t .1; goneIs = ap (λ (o : Outcome ℕ). o >>= λ x. sectorsOf n d (entryFrom d x)) (t .2) ∙ t .3; after = t .4 }
 
   -- ---- the claims
-  load-is : (d : List ℕ) (c : Contents) → contents n d ≡ given c → (ls : List (Option File)) × (lines n d ≡ given ls) × (c .files ≡ present ls)
+  lined-is : (d : List ℕ) (c : Contents) → contents n d ≡ given c → (ls : List (Option File)) × (lines n d ≡ given ls) × (c .files ≡ present ls)
   unfolding lines
-  load-is d c h = let t = contents-lines n d c h in (t .1, rw (t .2) (t .3), t .4)
+  lined-is d c h = let t = contents-lines n d c h in (t .1, rw (t .2) (t .3), t .4)
 
   -- a disk that is clean, with these lines, after some ops
   runs : (ops : List Op) → Every OfBytes ops → (d : List ℕ) → Clean n d → (r : Reading n d)
@@ -196,13 +196,13 @@ module _ (n : ℕ) (some′ : 0 < n) (few : n ≤ 16) where
   pub amending-of : AmendingOf n
   amending-of =
       record {
-        load = load-is;
+        lined = lined-is;
         stays = λ d c ops b. let t = runs ops b d c (reading-of d c .0) in clean-of (run n d ops) (t .2) (t .0);
         follows = λ d c ops b ls h.
             let r = lines-of d c ls h in
             let t = runs ops b d c (r .0) in
             reading-lines n (run n d ops) (t .0) ∙ ap given (t .1 ∙ ap (plan n d ops) (r .1));
-        loads = λ d c ops b ls h.
+        contains = λ d c ops b ls h.
             let r = lines-of d c ls h in
             let t = runs ops b d c (r .0) in
             contents-of (run n d ops) d (t .0) (plan n d ops ls) (t .3) (t .1 ∙ ap (plan n d ops) (r .1));

@@ -14,7 +14,7 @@ pub mod Listed
 pub mod Deletes
 pub mod Writes
 pub mod Pairs
-pub mod Thread
+pub mod Stored
 pub mod Saves
 pub mod Answers
 pub mod Amending

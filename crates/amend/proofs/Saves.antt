@@ -51,7 +51,7 @@ use Rattle.amend.proofs.Kept.{Sector, Changed, Parts, parts-of, changed
 use Rattle.amend.proofs.Mid.{Mid, Lined, After, lined-put, line-fits, mid-changed, line-page, line-free, line-sector, line-rest, line-fixed, line-paged}
 use Rattle.amend.proofs.Listed.{first-split, any-none, none-any, fill-at, line-open, each-any}
 use Rattle.amend.proofs.Writes.{Whole, placesOf, written-size, written-other, written-at, written-bytes, file-places, length-list, list-bytes, bytes-padded}
-use Rattle.amend.proofs.Thread.{Stand, thread-sectors, thread-file}
+use Rattle.amend.proofs.Stored.{Stand, stored-sectors, stored-file}
 use Rattle.amend.proofs.Deletes.{out-holds}
 
 -- ---- what a save found
@@ -360,12 +360,12 @@ module _ (n : ℕ) (some′ : 0 < n) (few : n ≤ 16) (d : List ℕ) (bytesd : B
     unfolding lineHolds
     holds =
         rw in-use
-        (thread-sectors n e (entryFrom e x) g gs address bytes (omega arith) (reads .list) shape many′ (takes .0) (takes .1) (stands .0) (stands .1))
+        (stored-sectors n e (entryFrom e x) g gs address bytes (omega arith) (reads .list) shape many′ (takes .0) (takes .1) (stands .0) (stands .1))
 
     files : lineAt n e x ≡ given (some (fileSaved name bytes))
     unfolding lineAt kindOf
     files =
-        let f = thread-file n e (entryFrom e x) g gs address bytes (omega arith) (reads .list) shape many′ (takes .0) (takes .1) (stands .0) (stands .1)
+        let f = stored-file n e (entryFrom e x) g gs address bytes (omega arith) (reads .list) shape many′ (takes .0) (takes .1) (stands .0) (stands .1)
         (nameField name) (listsFor (dataFor (length bytes)) + dataFor (length bytes)) (reads .kind) (reads .locked) raw-is (reads .count ∙ count-is) in
         rw (in-use, f) refl
 

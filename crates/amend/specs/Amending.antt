@@ -137,14 +137,14 @@ pub record Searches (n : ℕ) (d : List ℕ) (later : Bool) : Type 0 where
 -- Req 09, for disks of n sectors a track
 pub record AmendingOf (n : ℕ) : Type 0 where
   -- the contents of a disk are its lines, the empty ones left out
-  pub load : (d : List ℕ) (c : Contents) → contents n d ≡ given c
+  pub lined : (d : List ℕ) (c : Contents) → contents n d ≡ given c
       → (ls : List (Option File)) × (lines n d ≡ given ls) × (c .files ≡ present ls)
   -- every list of saves and deletes leaves a clean disk clean, and its lines are those of the plain list
   pub stays : (d : List ℕ) → Clean n d → (ops : List Op) → Every OfBytes ops → Clean n (run n d ops)
   pub follows : (d : List ℕ) → Clean n d → (ops : List Op) → Every OfBytes ops → (ls : List (Option File)) → lines n d ≡ given ls
       → lines n (run n d ops) ≡ given (plan n d ops ls)
   -- so its contents are the volume as it was, and the files of that list
-  pub loads : (d : List ℕ) → Clean n d → (ops : List Op) → Every OfBytes ops → (ls : List (Option File)) → lines n d ≡ given ls
+  pub contains : (d : List ℕ) → Clean n d → (ops : List Op) → Every OfBytes ops → (ls : List (Option File)) → lines n d ≡ given ls
       → contents n (run n d ops) ≡ given (record { volume = byteOf n d vtoc 6; files = present (plan n d ops ls) })
   -- what was saved is fetched by its name, byte for byte
   pub fetches : (d : List ℕ) → Clean n d → (name : List ℕ) (address : ℕ) (bytes : List ℕ) → Bytes bytes → (e : List ℕ) → saved n d name address bytes ≡ given e

@@ -173,8 +173,8 @@ module _ (n : ℕ) (e : List ℕ) (x : Entry) (g : Part) (gs : List Part) (addre
   all-on = ap (all (onDisk n)) pairs-are ∙ takers-all n takes′
 
   -- the sectors that the entry holds
-  pub thread-sectors : sectorsOf n e x ≡ given (sectorsIn (g ∷ gs))
-  thread-sectors = sectors-give n e x ls lists-are all-on ∙ ap given (lists-with n e (g ∷ gs) 0 (dataFor (length bytes)) false stand shape takes′)
+  pub stored-sectors : sectorsOf n e x ≡ given (sectorsIn (g ∷ gs))
+  stored-sectors = sectors-give n e x ls lists-are all-on ∙ ap given (lists-with n e (g ∷ gs) 0 (dataFor (length bytes)) false stand shape takes′)
 
   -- its bytes
   bytes-are : flatMap (bytesOf n e) (flatMap (pairsOf n e) ls) ≡ pieces (dataFor (length bytes)) (fileRecord address (length bytes) bytes)
@@ -183,9 +183,9 @@ module _ (n : ℕ) (e : List ℕ) (x : Entry) (g : Part) (gs : List Part) (addre
       ∙ ap (λ (k : ℕ). pieces k (fileRecord address (length bytes) bytes)) many
 
   -- and its file
-  pub thread-file : (raw : List ℕ) (count : ℕ) → x .kind ≡ 4 → x .locked ≡ 0 → x .raw ≡ raw → x .count ≡ count
+  pub stored-file : (raw : List ℕ) (count : ℕ) → x .kind ≡ 4 → x .locked ≡ 0 → x .raw ≡ raw → x .count ≡ count
       → fileOf n e x ≡ given (record { kind = 4; locked = 0; raw = raw; count = count; bytes = bytes })
-  thread-file raw count a b c f =
+  stored-file raw count a b c f =
       let w : bytesIn (x .kind) (flatMap (bytesOf n e) (flatMap (pairsOf n e) ls)) ≡ bytes =
       (λ i. bytesIn (a i) (bytes-are i)) ∙ bytes-back address bytes small in
       file-gives n e x ls lists-are all-on ∙ (λ i. given (record { kind = a i; locked = b i; raw = c i; count = f i; bytes = w i }))
