@@ -341,6 +341,12 @@ done
 cp samples/one-page.nib outs/one.nib
 same save-nibbles save outs/one.nib 'LINE 7 RING 8' 8192 ring
 same delete-nibbles delete outs/one.nib 'LINE 7 RING 1' --out outs/none
+cp samples/one-page.dsk outs/one.po
+same save-po save outs/one.po 'LINE 7 RING 8' 8192 ring
+cp samples/one-page.dsk outs/one.PO
+same delete-po delete outs/one.PO 'LINE 7 RING 1' --out outs/none
+holds save-po-kept cmp samples/one-page.dsk outs/one.po
+rm outs/one.po outs/one.PO
 holds save-nibbles-kept cmp samples/one-page.nib outs/one.nib
 holds save-nothing-left not test -e outs/none
 

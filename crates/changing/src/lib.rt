@@ -319,6 +319,28 @@ pub fn delete(disk: &[u8], shown: &[u8], to: &[u8], over: bool, force: bool) -> 
     status
 }
 
+// The name of an image in ProDOS order.
+fn ends_in_po(path: &[u8]) -> bool {
+    if path.len() < 3 {
+        return false;
+    }
+    let end = lists::part(path, path.len() - 3, 3);
+    lists::same(end, b".po") | lists::same(end, b".PO")
+}
+
+// Whether an image is in ProDOS order by its name. Then this is said.
+pub fn in_prodos_order(from: &[u8]) -> bool {
+    if !ends_in_po(from) {
+        return false;
+    }
+    tell(b"linefiles: ");
+    names::input(STDERR_FILENO, from);
+    tell(
+        b" is in ProDOS order by its name, and only a flat disk in\n  DOS order is changed; rearrange its sectors first, and name it .dsk or .do\n",
+    );
+    true
+}
+
 // Says that the bytes that were read are no flat disk, and what to do.
 pub fn not_flat(from: &[u8]) -> u8 {
     tell(b"linefiles: ");

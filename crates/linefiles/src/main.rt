@@ -369,6 +369,11 @@ fn as_flat(command: u8, from: &[u8], bytes: &[u8], first: usize) -> u8 {
 
 // A command on a disk: flat, or by its length a nibble stream. The first line says which.
 fn on_disk(command: u8, from: &[u8], bytes: &[u8], first: usize) -> u8 {
+    if changes(command) {
+        if changing::in_prodos_order(from) {
+            return TROUBLE;
+        }
+    }
     if changes(command) & !is_flat(bytes) {
         return changing::not_flat(from);
     }
