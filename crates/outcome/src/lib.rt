@@ -47,6 +47,8 @@ pub enum Refusal {
     NoSpace,
     // a shown name of the catalog
     NameTaken,
+    // over 64 lengths
+    PlanLong,
 }
 
 // The refusals' numbers, as calls return them; 0 says that nothing was refused.
@@ -91,6 +93,8 @@ pub const NOT_CLEAN: u8 = 20;
 pub const NO_SPACE: u8 = 21;
 
 pub const NAME_TAKEN: u8 = 22;
+
+pub const PLAN_LONG: u8 = 25;
 
 // What a number says.
 pub enum Meaning {
@@ -153,6 +157,7 @@ pub fn refusal_number(r: Refusal) -> u8
         Refusal::NotClean => NOT_CLEAN,
         Refusal::NoSpace => NO_SPACE,
         Refusal::NameTaken => NAME_TAKEN,
+        Refusal::PlanLong => PLAN_LONG,
     }
 }
 
@@ -182,6 +187,7 @@ pub fn refusal_of(number: u8) -> Meaning
         NOT_CLEAN => Meaning::Refused(Refusal::NotClean),
         NO_SPACE => Meaning::Refused(Refusal::NoSpace),
         NAME_TAKEN => Meaning::Refused(Refusal::NameTaken),
+        PLAN_LONG => Meaning::Refused(Refusal::PlanLong),
         _ => Meaning::Nothing,
     }
 }
@@ -212,6 +218,7 @@ fn word_of(r: Refusal) -> Word
         Refusal::NotClean => Word(*b"not clean\0\0\0\0\0\0", 9),
         Refusal::NoSpace => Word(*b"no space\0\0\0\0\0\0\0", 8),
         Refusal::NameTaken => Word(*b"name taken\0\0\0\0\0", 10),
+        Refusal::PlanLong => Word(*b"plan long\0\0\0\0\0\0", 9),
     }
 }
 

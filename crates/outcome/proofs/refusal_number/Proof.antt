@@ -27,6 +27,7 @@ refusal-number-spec =
     (λ c. search words)  -- enum-told-19
     (λ c. search words)  -- enum-told-20
     (λ c. search words)  -- enum-told-21
+    (λ c. search words)  -- enum-told-22
     (λ c. search words)  -- returns
     (λ c. search words)  -- returns-2
     (λ c. search words)  -- returns-3
@@ -48,4 +49,5 @@ refusal-number-spec =
     (λ c. search words)  -- returns-19
     (λ c. search words)  -- returns-20
     (λ c. search words)  -- returns-21
+    (λ c. search words)  -- returns-22
     )

@@ -28,4 +28,5 @@ refusal-of-spec =
     (λ c. search words)  -- returns-20
     (λ c. search words)  -- returns-21
     (λ c. search words)  -- returns-22
+    (λ c. search words)  -- returns-23
     )
