@@ -3,7 +3,7 @@ use mathlib.Core.Path.{_≡_, refl, sym, ap, _∙_}
 use mathlib.Core.Bool.{Bool, true, false, not}
 use mathlib.Core.List.{List, [], _∷_, _++_, flatMap, append-nil}
 use mathlib.Core.Option.{Option, none, some}
-use Prim.Native.Nat.{ℕ, _+_, _*_, _<_, _≤_, _^_}
+use Prim.Native.Nat.{ℕ, _+_, _*_, _/_, _%_, _<_, _≤_, _^_}
 use native.Mathlib.Omega.{arith}
 use lib.ListN.{length, getD, replicate}
 use borrow.Author.Tests.{lt-leb, le-leb, not-true, not-false}
@@ -47,7 +47,7 @@ use Rattle.filing.proofs.Filed.{filed-long, filed-written, first-place}
 use Rattle.saving.specs.declared.Sight.{Sight}
 use Rattle.saving.specs.Saving.{Amended}
 use Rattle.saving.specs.Steps.{isSome, startOr0, bears, idle, sightOf, Seen, Paged, frees, Linked, ListsFreed, Copied, Erasable, Erased, Storable, EntryPut, FilePut}
-use Rattle.saving.proofs.Freeing.{length-frees, vtoc-long, copy-freed}
+use Rattle.saving.proofs.Freeing.{length-frees, vtoc-long, copy-is, copy-freed}
 
 -- an option that is there, and one that is not
 some-of : (o : Option ℕ) (x : ℕ) → x ≡ startOr0 o → isSome o ≡ true → o ≡ some x
@@ -227,7 +227,7 @@ module _ (d : List ℕ) (x : ℕ) (h : Erasable d x) where
     table-is : T′ ≡ frees (bytesOf 16 d vtoc) (h .places)
     table-is =
         let g = given-lists in
-        l .is (g .0) (ap (listWalk 16 d) e ∙ g .1) ∙ (λ i. frees (c .is i) (sym (g .3) i))
+        l .is (g .0) (ap (listWalk 16 d) e ∙ g .1) ∙ (λ i. frees (copy-is d T c (h .size) i) (sym (g .3) i))
 
     long : length T′ ≡ 256
     long = ap length table-is ∙ length-frees (bytesOf 16 d vtoc) (h .places) ∙ vtoc-long d (h .size)
@@ -254,10 +254,16 @@ pub ruleset erases = (erase-long, erase-fits, erase-linked, erase-done, needs)
 
 -- ---- a file stored
 -- how many sectors it takes
+pub data-is : (k : ℕ) → k / 256 + (k % 256 + 259) / 256 ≡ dataFor k
+data-is k = omega arith
+
+pub lists-is : (m : ℕ) → m / 122 + (m % 122 + 121) / 122 ≡ listsFor m
+lists-is m = omega arith
+
 pub sectors-small : (k : ℕ) → k ≤ 32768 → listsFor (dataFor k) + dataFor k ≤ 131
 sectors-small k h = omega arith
 
-pub ruleset counts = (sectors-small, needs)
+pub ruleset counts = (data-is, lists-is, sectors-small, needs)
 
 -- its entry
 made-is : (p : Place) (name : List ℕ) (count : ℕ) (out : List ℕ) (r : Handed) → Hands (entryWritten p 4 false name count) (replicate 35 0) out r
@@ -303,11 +309,11 @@ module _ (d : List ℕ) (x : ℕ) (name : List ℕ) (address : ℕ) (bytes : Lis
 
     pub store-none : b ≡ false → Amended (savedAt 16 d x name address bytes) d d 21
     unfolding savedAt
-    store-none f = refuses d NoSpace (rw (allotted-none d (h .size) (length bytes) m 262 T (replicate 262 0) T′ P′ b a q (c .is) refl fit f) refl)
+    store-none f = refuses d NoSpace (rw (allotted-none d (h .size) (length bytes) m 262 T (replicate 262 0) T′ P′ b a q (copy-is d T c (h .size)) refl fit f) refl)
 
     module _ (f : b ≡ true) where
       all-given : (gs : List Part) × (takeFor 16 (length bytes) d ≡ given (gs, put (start 16 vtoc) T′ d)) × (P′ ≡ padded 262 (flatMap placeBytes (sectorsIn gs))) × (length T′ ≡ 256)
-      all-given = allotted-all d (h .size) (length bytes) m 262 T (replicate 262 0) T′ P′ b a q (c .is) refl fit f
+      all-given = allotted-all d (h .size) (length bytes) m 262 T (replicate 262 0) T′ P′ b a q (copy-is d T c (h .size)) refl fit f
 
       abbrev gs : List Part
       gs = all-given .0

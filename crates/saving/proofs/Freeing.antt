@@ -26,7 +26,7 @@ use Rattle.files.proofs.Runs.{behind, stop, next, none-behind}
 use Rattle.amend.specs.Search.{freed}
 use Rattle.allot.specs.Table.{markedIn, markOn, Marked}
 use Rattle.allot.proofs.Working.{withTable, table-self, table-marked, marked-long}
-use Rattle.saving.specs.Steps.{frees, PairsFreed, ListFreed, Linked, ListsFreed, Copied}
+use Rattle.saving.specs.Steps.{frees, PairsFreed, ListFreed, Linked, ListsFreed, vtocCopy, Copied}
 
 -- ---- on the disk and in the copy
 -- some sectors called free in a table, one after the other
@@ -65,11 +65,14 @@ unfolding bytesOf
 vtoc-long d size = length-take-le 256 (drop 69632 d) (rw length-drop (omega arith))
 
 -- a copy of it
-pub copied : (d t o : List ℕ) → t ≡ take 256 (drop 69632 d) → o ≡ placed 0 t (replicate 256 0) → length d ≡ 143360 → Copied d o
-unfolding bytesOf
-copied d t o e f size =
-    let l : length t ≡ 256 = ap length e ∙ vtoc-long d size in
-    record { is = put-whole (placed-put f (omega arith)) l ∙ e }
+pub copied : (d t o : List ℕ) → t ≡ take 256 (drop 69632 d) → o ≡ placed 0 t (replicate 256 0) → Copied d o
+unfolding bytesOf vtocCopy
+copied d t o e f = record { is = f ∙ ap (λ (x : List ℕ). placed 0 x (replicate 256 0)) e }
+
+-- .. of a disk that has one
+pub copy-is : (d T : List ℕ) → Copied d T → length d ≡ 143360 → T ≡ bytesOf 16 d vtoc
+unfolding vtocCopy
+copy-is d T c size = let l = vtoc-long d size in put-whole (placed-put (c .is) (omega arith)) l
 
 pub ruleset copies = (copied, needs)
 

@@ -4,7 +4,7 @@ use mathlib.Core.Bool.{Bool, true, false, cond, not, _&&_}
 use mathlib.Core.List.{List, [], _∷_, flatMap, foldl}
 use mathlib.Core.Option.{Option, none, some}
 use Prim.Native.Nat.{ℕ, zero, suc, _+_, _*_, _≤_}
-use lib.ListN.{length}
+use lib.ListN.{length, replicate}
 use Rattle.lists.specs.Fill.{placed}
 use Rattle.outcome.specs.Outcome.{given}
 use Rattle.disk.specs.declared.Place.{Place}
@@ -102,9 +102,13 @@ pub record Linked (d : List ℕ) (p : Place) : Type 0 where
 pub record ListsFreed (d : List ℕ) (p : Place) (before after : List ℕ) : Type 0 where
   pub is : (ls : List Place) → listWalk 16 d p ≡ given ls → after ≡ frees before (flatMap (withPairs 16 d) ls)
 
--- a copy of the VTOC was made
+-- the VTOC as it is copied: zeros where the disk is too short to have one
+unfoldable pub vtocCopy : List ℕ → List ℕ
+vtocCopy d = placed 0 (bytesOf 16 d vtoc) (replicate 256 0)
+
+-- a copy of it was made
 pub record Copied (d r : List ℕ) : Type 0 where
-  pub is : r ≡ bytesOf 16 d vtoc
+  pub is : r ≡ vtocCopy d
 
 -- ---- the ends of the calls
 -- the line from x on lies on the disk, and the sectors of its entry are given

@@ -49,7 +49,7 @@ struct Sight {
 }
 
 // Why a disk is not amended: 1 to 6, 20; 0 where it is. A disk of 13 sectors a track is 1.
-fn tidy_refusal(disk: &[u8]) -> u8
+pub fn tidy_refusal(disk: &[u8]) -> u8
     ensures { λ r. ⌜ r ≡ number (tidy 16 (now (disk .entry))) ⌝ }
 {
     if disk.len() != 143360 {
@@ -205,9 +205,8 @@ fn free_lists(disk: &[u8], first: Place, table: &mut [u8])
     }
 }
 
-// A copy of the VTOC.
-fn vtoc_copy(disk: &[u8]) -> [u8; 256]
-    requires { ⌜ length (now disk) ≡ 143360 ⌝ }
+// A copy of the VTOC; zeros where the disk is too short to have one.
+pub fn vtoc_copy(disk: &[u8]) -> [u8; 256]
     ensures { λ r. ⌜ Copied (now (disk .entry)) r ⌝ }
 {
     let mut table = [0u8; 256];
@@ -248,14 +247,28 @@ pub fn delete(disk: &mut [u8], name: &[u8]) -> u8
     0
 }
 
+// Data sectors for k bytes: address and length stand before them.
+pub fn data_for(k: usize) -> usize
+    ensures { λ r. ⌜ r ≡ dataFor k ⌝ }
+{
+    k / 256 + (k % 256 + 259) / 256
+}
+
+// Lists for m data sectors.
+pub fn lists_for(m: usize) -> usize
+    ensures { λ r. ⌜ r ≡ listsFor m ⌝ }
+{
+    m / 122 + (m % 122 + 121) / 122
+}
+
 // How many sectors a file of k bytes takes: lists and data.
 fn sectors_for(k: usize) -> usize
     requires { ⌜ k ≤ 32768 ⌝ }
     ensures is { λ r. ⌜ r ≡ listsFor (dataFor k) + dataFor k ⌝ }
     ensures small { λ r. ⌜ r ≤ 131 ⌝ }
 {
-    let m = (4 + k + 255) / 256;
-    (m + 121) / 122 + m
+    let m = data_for(k);
+    lists_for(m) + m
 }
 
 // Puts in the entry of a saved file, unlocked Binary, from x on.
