@@ -1,5 +1,6 @@
 pub mod Tidy
 pub mod Names
+pub mod Pass
 pub mod Looks
 pub mod Freeing
 pub mod Calls

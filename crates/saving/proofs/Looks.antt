@@ -1,5 +1,5 @@
 -- The lines of a disk looked along: the last of a name, the first that is not in use. Assumes nothing.
-use mathlib.Core.Path.{_≡_, refl, sym, ap, _∙_}
+use mathlib.Core.Path.{_≡_, refl, sym, ap, subst, _∙_}
 use mathlib.Core.Bool.{Bool, true, false, cond, not, _&&_}
 use mathlib.Core.List.{List, [], _∷_, _++_, map, flatMap, foldl, append-assoc, append-nil, map-append}
 use mathlib.Core.Option.{Option, none, some}
@@ -13,15 +13,13 @@ use Rattle.lists.specs.Fill.{tab, below}
 use Rattle.lists.specs.Same.{same}
 use Rattle.lists.proofs.Split.{by-test}
 use Rattle.lists.proofs.Laws.{tab-suc}
-use Rattle.outcome.specs.Outcome.{given, _>>=_}
 use Rattle.disk.specs.declared.Place.{Place}
 use Rattle.disk.specs.Disk.{start, linkOf}
-use Rattle.disk.proofs.Steps.{made, rest, rest-start, rest-within, rest-last, rest-on}
-use Rattle.catalog.specs.Catalog.{validFile, shown, entryFrom, soundPage, lastPage, nextPage, firstPage, pages}
-use Rattle.catalog.proofs.Order.{pages-given}
+use Rattle.catalog.specs.Catalog.{validFile, shown, entryFrom, lastPage, firstPage}
 use Rattle.amend.specs.Lines.{firstOf, lastOf, isNamed, inUse, starts}
 use Rattle.saving.specs.declared.Sight.{Sight}
 use Rattle.saving.specs.Steps.{isSome, startOr0, sight, bears, idle, sightOf, seeLine, seeLines, seePage, LineSeen, PageSeen, Seen, Paged}
+use Rattle.saving.proofs.Pass.{Passing, pass-none, pass-over, pass-last, pass-more}
 
 -- ---- one more behind
 module _ {A : Type 0} (test : A → Bool) where
@@ -149,55 +147,31 @@ module _ (d name : List ℕ) where
 
   -- ---- the pages
   pub record Looking (most k : ℕ) (s : Sight) (p : Place) : Type 0 where
-    pub budget : most ≡ 35 * 16 + 1
-    pub count : k ≤ most
-    pub places : List Place
-    pub walked : pages 16 d ≡ given places
-    pub is : rest (seePage d name) 16 (soundPage 16 d) (nextPage 16 d) (35 * 16 + 1) k s p ≡ given (sightOf d name (starts 16 places))
+    pub from : Sight
+    pub blank : from ≡ record { named = false; line = 0; vacant = false; room = 0 }
+    pub pass : Passing (seePage d name) d from most k s p
 
   pub looking-none : (most : ℕ) (p : Place) (s : Sight) → most ≡ 35 * 16 + 1 → Paged d → p ≡ firstPage 16 d
       → s ≡ record { named = false; line = 0; vacant = false; room = 0 } → Looking most 0 s p
-  looking-none most p s e t f z =
-      record {
-        budget = e;
-        count = omega arith;
-        places = t .places;
-        walked = t .is;
-        is =
-            ap (rest (seePage d name) 16 (soundPage 16 d) (nextPage 16 d) (35 * 16 + 1) 0 s) f
-            ∙ rest-start (seePage d name) 16 (soundPage 16 d) (nextPage 16 d) (35 * 16 + 1) s (firstPage 16 d)
-            ∙ ap (made (seePage d name) s) (pages-given 16 d (t .places) (t .is) .1) ∙ ap given (all-are s z (t .places));
-      }
+  looking-none most p s e t f z = record { from = s; blank = z; pass = pass-none (seePage d name) d most p s e t f }
 
   module _ (most k : ℕ) (s : Sight) (p : Place) (w : Looking most k s p) where
     pub looking-over : most ≤ k → Seen d name s
-    looking-over h =
-        let l = rest-within (seePage d name) 16 (soundPage 16 d) (nextPage 16 d) (35 * 16 + 1) k s p (sightOf d name (starts 16 (w .places))) (w .is) in
-        absurd (omega (arith, w .budget))
+    looking-over h = absurd (pass-over (seePage d name) d (w .from) most k s p (w .pass) h)
 
     module _ (t : Sight) (u : PageSeen d name s p t) (b : Bool) (e : b ≡ lastPage 16 d p) where
       pub looking-last : b ≡ true → Seen d name t
-      unfolding nextPage
       looking-last z =
-          let l = rest-last (seePage d name) 16 (soundPage 16 d) (nextPage 16 d) (35 * 16 + 1) k s p (sightOf d name (starts 16 (w .places))) (w .is) (rw (← e, z) refl) in
-          record {
-            is = λ ps q.
-                let y : given (w .places) ≡ given ps = sym (w .walked) ∙ q in
-                let x : w .places ≡ ps = cc in
-                u .is ∙ sym l ∙ ap (λ (v : List Place). sightOf d name (starts 16 v)) x;
-          }
+          record { is = λ ps q. u .is ∙ pass-last (seePage d name) d (w .from) most k s p (w .pass) (sym e ∙ z) ps q ∙ all-are (w .from) (w .blank) ps }
 
       pub looking-more : b ≡ false → (q : Place) → q ≡ linkOf 16 d p → k < most → Looking most (k + 1) t q
-      unfolding nextPage
       looking-more z q f h =
           record {
-            budget = w .budget;
-            count = omega arith;
-            places = w .places;
-            walked = w .walked;
-            is =
-                ap (λ (v : Sight). rest (seePage d name) 16 (soundPage 16 d) (nextPage 16 d) (35 * 16 + 1) (k + 1) v q) (u .is)
-                ∙ rest-on (seePage d name) 16 (soundPage 16 d) (nextPage 16 d) (35 * 16 + 1) k s p (sightOf d name (starts 16 (w .places))) (w .is) q (rw (← e, z, f) refl);
+            from = w .from;
+            blank = w .blank;
+            pass =
+                subst (λ (v : Sight). Passing (seePage d name) d (w .from) most (k + 1) v q) (sym (u .is))
+                (pass-more (seePage d name) d (w .from) most k s p (w .pass) (sym e ∙ z) q f h);
           }
 
 pub ruleset seeing = (line-idle, line-open, line-named, line-other, not-true, not-false, needs)
