@@ -1,4 +1,4 @@
--- Cases of the definitions, computed. Assumes noSaves.
+-- Cases of the definitions, computed. Assumes nothing.
 use mathlib.Core.Path.{_≡_, refl}
 use mathlib.Core.List.{[], _∷_}
 use Rattle.forecast.specs.Forecast.{noSaves, goesOn, endsIn21}
