@@ -58,15 +58,6 @@ run-given : (n : ℕ) (d e : List ℕ) (op : Op) (ops : List Op) → amend n d o
 unfolding run
 run-given n d e op ops h = ap (λ (o : Outcome (List ℕ)). run n (kept d o) ops) h
 
--- the forecast of the first length, where it ends in 21 and where it goes on
-ahead-refused : (n left : ℕ) (t : List ℕ) (k : ℕ) (ks : List ℕ) (r : Refusal) → tried n left k t ≡ refused r → ahead n left t (k ∷ ks) ≡ endsIn21 (ahead n left t ks)
-unfolding ahead
-ahead-refused n left t k ks r h = rw (h, ahead) refl
-
-ahead-given : (n left : ℕ) (t : List ℕ) (k : ℕ) (ks e : List ℕ) → tried n left k t ≡ given e → ahead n left t (k ∷ ks) ≡ goesOn k (ahead n (left - 1) e ks)
-unfolding ahead
-ahead-given n left t k ks e h = rw (h, ahead) refl
-
 -- no saves, a save that ends in 21, and one that is accepted
 told-none : (n : ℕ) (d : List ℕ) → Foretold n d [] noSaves
 unfolding answersTo run
@@ -256,11 +247,11 @@ module _ (n : ℕ) (some′ : 0 < n) (few : n ≤ 16) where
   told (s ∷ ss) d c r a t tb left count =
       ⊎-elim
       (λ w.
-      subst (λ (f : Forecast). Foretold n d (s ∷ ss) f) (sym (ahead-refused n left t (length (s .bytes)) (lengthsOf ss) NoSpace (w .0)))
+      rw (w .0, ahead)
       (told-refused n d s ss (ahead n left t (lengthsOf ss)) (w .1) (told ss d c r (allowed-tail a) t tb left count)))
       (λ w.
       let g = w .4 in
-      subst (λ (f : Forecast). Foretold n d (s ∷ ss) f) (sym (ahead-given n left t (length (s .bytes)) (lengthsOf ss) (w .0) (w .2)))
+      rw (w .2, ahead)
       (told-accepted n d (w .1) s ss (ahead n (left - 1) (w .0) (lengthsOf ss)) (w .3) (g .more)
       (told ss (w .1) (g .clean) (g .reading) (rw (g .lines) (allowed-after (fileSaved (s .name) (s .bytes)) (savable-shown (s .name) (parted (a .names) .0)) a)) (w .0) (g .tables′) (left - 1) (g .count′))))
       (beside d c r (s .name) (s .address) (s .bytes) (parted (a .bytes) .0) (parted (a .names) .0) (parted (a .new) .0) t tb left count)
