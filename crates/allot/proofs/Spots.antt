@@ -2,14 +2,13 @@
 use mathlib.Core.Path.{_≡_, refl, ap}
 use mathlib.Core.Bool.{Bool, true, false, cond, _&&_}
 use mathlib.Core.List.{List, flatMap}
-use mathlib.Core.Option.{Option, none, some}
+use mathlib.Core.Option.{Option, some}
 use Prim.Native.Nat.{ℕ, _+_, _*_, _-_, _<_}
 use native.Mathlib.Omega.{arith}
 use lib.ListN.{length, getD}
 use lib.Dec.{eqb, ltb, leb}
 use borrow.Author.Tests.{leb-true}
 use Rattle.lists.specs.Every.{Every}
-use Rattle.lists.specs.Every
 use Rattle.lists.specs.Fill.{tab, below}
 use Rattle.lists.specs.Select.{all}
 use Rattle.lists.proofs.Split.{by-test, both-true}
@@ -19,9 +18,9 @@ use Rattle.outcome.specs.declared.Refusal.the-variants.{NoSpace}
 use Rattle.disk.specs.declared.Place.{Place}
 use Rattle.disk.specs.Disk.{onDisk, sectors}
 use Rattle.disk.proofs.Places.{on-track}
-use Rattle.amend.specs.Lines.{firstOf, found}
+use Rattle.amend.specs.Lines.{found}
 use Rattle.amend.specs.Search.{Visit, Spot, upFrom, downFrom, toEdge, route, directionOf, trackOf, spotsOf, spots, openTrack, takable, seek}
-use Rattle.amend.proofs.Seeks.{first-found}
+use Rattle.amend.proofs.Seeks.{first-found, first-same}
 use Rattle.allot.specs.Table.{openIn, takableIn, seekIn}
 use Rattle.allot.proofs.Working.{withTable, table-byte, table-free}
 
@@ -60,12 +59,6 @@ route-on a b =
 pub seek-on : (T : List ℕ) (later : Bool) (q : Spot) → seekIn T later ≡ some q → onDisk 16 (q .place) ≡ true
 unfolding seekIn
 seek-on T later q e = first-found (λ (s : Spot). takableIn T later (s .place)) q (route-on (getD T 48 0) (getD T 49 0)) e .1
-
--- ---- the same tests find the same
-first-same : {A : Type 0} (f g : A → Bool) {xs : List A} → Every (λ (x : A). f x ≡ g x) xs → firstOf f xs ≡ firstOf g xs
-unfolding firstOf
-first-same f g Every.none = refl
-first-same f g (Every.more {x} {xs} e es) = rw (e, first-same f g es) refl
 
 module _ (d : List ℕ) (size : length d ≡ 256 * sectors 16) (T : List ℕ) (long : length T ≡ 256) (later : Bool) where
   abbrev D : List ℕ

@@ -43,13 +43,13 @@ use Rattle.amend.proofs.Answers.{seek-refused, save-answers, save-accep
 
 module _ (n : ℕ) (some′ : 0 < n) (few : n ≤ 16) where
   -- a clean disk, line by line
-  reading-of : (d : List ℕ) (c : Clean n d) → (r : Reading n d) × (c .has ≡ contentsWith n d (present (r .ls)))
+  pub reading-of : (d : List ℕ) (c : Clean n d) → (r : Reading n d) × (c .has ≡ contentsWith n d (present (r .ls)))
   reading-of d c = tidy-reading n d (c .has) (c .is)
 
-  size-of : (d : List ℕ) → Clean n d → length d ≡ 256 * sectors n
+  pub size-of : (d : List ℕ) → Clean n d → length d ≡ 256 * sectors n
   size-of d c = contents-size n d (c .has) (tidy-given n d (c .has) (c .is) .1)
 
-  clean-of : (d : List ℕ) → Bytes d → Reading n d → Clean n d
+  pub clean-of : (d : List ℕ) → Bytes d → Reading n d → Clean n d
   clean-of d b r = record { bytes = b; has = contentsWith n d (present (r .ls)); is = reading-tidy n d r }
 
   -- ---- one op that is accepted

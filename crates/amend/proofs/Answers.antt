@@ -98,7 +98,7 @@ save-given true true true D o f e (inr w) h = absurd (refused-given (sym (ap (λ
 
 module _ (n : ℕ) (d : List ℕ) (r : Reading n d) (tidy-is : tidy n d ≡ given (contentsWith n d (present (r .ls)))) where
   -- a line is open on the disk where one is in the list
-  opened : Opened (any isOpen (r .ls)) (openLine n d)
+  pub opened : Opened (any isOpen (r .ls)) (openLine n d)
   unfolding openLine
   opened = rw (r .paged) (go (firstOf (λ (y : ℕ). not (inUse d y)) (starts n (r .ps))) refl)
     where

@@ -18,3 +18,4 @@ pub mod Stored
 pub mod Saves
 pub mod Answers
 pub mod Amending
+pub mod Agree

@@ -76,6 +76,11 @@ pub record After (n : ℕ) (d e : List ℕ) (ls : List (Option File)) (line : �
   pub newUsed : (q : Place) → onDisk n q ≡ true → 0 < held n new (numberOf n q) → free n e q ≡ false
   pub goneFree : (q : Place) → onDisk n q ≡ true → 0 < held n gone (numberOf n q) → free n e q ≡ true
   pub mapKept : (q : Place) → onDisk n q ≡ true → held n new (numberOf n q) ≡ 0 → held n gone (numberOf n q) ≡ 0 → free n e q ≡ free n d q
+  -- line by line: the others, and all sectors that the lines of d hold, are as they were
+  pub old : Reading n d
+  pub front : List ℕ
+  pub back : List ℕ
+  pub changed : Changed n d e old front line back
 
 -- a line ends within the disk
 pub line-fits : (n : ℕ) → 0 < n → (d : List ℕ) → length d ≡ 256 * sectors n → (r : Reading n d) (a : List ℕ) (x : ℕ) (b : List ℕ) → starts n (r .ps) ≡ a ++ x ∷ b

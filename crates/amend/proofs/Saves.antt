@@ -29,7 +29,7 @@ use Rattle.disk.specs.Disk.{place, numberOf, onDisk, bytesOf, sectors}
 use Rattle.disk.specs.Vtoc.{vtoc}
 use Rattle.disk.proofs.Places.{same-place, on-track, on-sector, is-on}
 use Rattle.catalog.specs.Catalog.{validFile, kindOf, trimmed, shown, entryFrom, pages}
-use Rattle.files.specs.Contents.{File, Contents, maxPairs}
+use Rattle.files.specs.Contents.{File, Contents, maxPairs, lists, pairsOf}
 use Rattle.records.specs.Records.{writable, nameField, entryRecord, fileRecord}
 use Rattle.records.specs.ReadBack.{ReadsAs}
 use Rattle.records.proofs.Entries.{writable-short, writable-low, field-is, length-record}
@@ -51,7 +51,7 @@ use Rattle.amend.proofs.Kept.{Sector, Changed, Parts, parts-of, changed
 use Rattle.amend.proofs.Mid.{Mid, Lined, After, lined-put, line-fits, mid-changed, line-page, line-free, line-sector, line-rest, line-fixed, line-paged}
 use Rattle.amend.proofs.Listed.{first-split, any-none, none-any, fill-at, line-open, each-any}
 use Rattle.amend.proofs.Writes.{Whole, placesOf, written-size, written-other, written-at, written-bytes, file-places, length-list, list-bytes, bytes-padded}
-use Rattle.amend.proofs.Stored.{Stand, stored-sectors, stored-file}
+use Rattle.amend.proofs.Stored.{Stand, lists-are, pairs-are, stored-sectors, stored-file}
 use Rattle.amend.proofs.Deletes.{out-holds}
 
 -- ---- what a save found
@@ -215,6 +215,15 @@ in-places n (w ∷ ws) =
     (in-places n ws))
 
 -- ---- a save on a clean disk
+-- what is read of the line at x of f, filled with a file of k bytes in the parts gs: its lists and their pairs, so many; the VTOC is that of m
+pub record Filled (n k : ℕ) (f : List ℕ) (x : ℕ) (gs : List Part) (m : List ℕ) : Type 0 where
+  pub inUseNow : inUse f x ≡ true
+  pub listsIs : lists n f (entryFrom f x) ≡ given (map (λ (g : Part). g .list) gs)
+  pub pairsIs : flatMap (pairsOf n f) (map (λ (g : Part). g .list) gs) ≡ dataOf gs
+  pub dataMany : length (dataOf gs) ≡ dataFor k
+  pub listsMany : length gs ≡ listsFor (dataFor k)
+  pub tableIs : bytesOf n f vtoc ≡ bytesOf n m vtoc
+
 module _ (n : ℕ) (some′ : 0 < n) (few : n ≤ 16) (d : List ℕ) (bytesd : Bytes d) (size : length d ≡ 256 * sectors n) (r : Reading n d)
     (name : List ℕ) (address : ℕ) (bytes : List ℕ) (bytesb : Bytes bytes) where
   module _ (named : savable name ≡ true) (short : length bytes ≤ 32768) (x : ℕ) (a b : List ℕ) (split : starts n (r .ps) ≡ a ++ x ∷ b)
@@ -439,6 +448,23 @@ module _ (n : ℕ) (some′ : 0 < n) (few : n ≤ 16) (d : List ℕ) (bytesd : B
           newUsed = λ q on h. free-now q on ∙ tk .now q on h;
           goneFree = λ q on h. absurd (let z = held-none n (numberOf n q) in omega arith);
           mapKept = λ q on h k. free-now q on ∙ tk .other q on h;
+          old = r;
+          front = a;
+          back = b;
+          changed = changed;
+        }
+
+    -- what is read of the line
+    filled-with : Filled n (length bytes) e x (g ∷ gs) m
+    unfolding page
+    filled-with =
+        record {
+          inUseNow = in-use;
+          listsIs = lists-are n e (entryFrom e x) g gs address bytes (omega arith) (reads .list) shape many′ (takes .0) (takes .1) (stands .0) (stands .1);
+          pairsIs = pairs-are n e (entryFrom e x) g gs address bytes (omega arith) (reads .list) shape many′ (takes .0) (takes .1) (stands .0) (stands .1);
+          dataMany = many′;
+          listsMany = many;
+          tableIs = line-sector n some′ d r L w x e mid lined (tk .was) a b split vtoc (λ k. page .1 .0 .notVtoc (sym k)) ∙ table-same;
         }
 
   -- a save leaves the disk clean, with the first open line filled
@@ -446,23 +472,22 @@ module _ (n : ℕ) (some′ : 0 < n) (few : n ≤ 16) (d : List ℕ) (bytesd : B
       → Every (λ (y : ℕ). not (inUse d y) ≡ false) a → not (inUse d x) ≡ true → (gs : List Part) (m : List ℕ)
       → Taking n d (sectorsIn gs) m → Shaped (dataFor (length bytes)) false gs → length gs ≡ listsFor (dataFor (length bytes))
       → After n d (madeOf n d name address bytes x gs m) (fillFirst (fileSaved name bytes) (r .ls)) x (sectorsIn gs) []
+      × Filled n (length bytes) (madeOf n d name address bytes x gs m) x gs m
   unfolding e rec count w W
   conclude-for named short x a b split before here [] m tk shape many = absurd (omega arith)
-  conclude-for named short x a b split before here (g ∷ gs) m tk shape many = conclude named short x a b split before here g gs m tk shape many
+  conclude-for named short x a b split before here (g ∷ gs) m tk shape many =
+      (conclude named short x a b split before here g gs m tk shape many, filled-with named short x a b split before here g gs m tk shape many)
 
   pub save-clean : (f : List ℕ) → saved n d name address bytes ≡ given f
       → (x : ℕ) × (gs : List Part) × (m : List ℕ) × (openLine n d ≡ given x) × (takeFor n (length bytes) d ≡ given (gs, m))
-      × After n d f (fillFirst (fileSaved name bytes) (r .ls)) x (sectorsIn gs) []
+      × After n d f (fillFirst (fileSaved name bytes) (r .ls)) x (sectorsIn gs) [] × Filled n (length bytes) f x gs m
   save-clean f h =
       let s = saved-given n d name address bytes f h in
       let l = first-split (λ (y : ℕ). not (inUse d y)) (starts n (r .ps)) (s .x) (open-line n d name address bytes (r .ps) (s .x) (r .paged) (s .lineIs)) in
       let t = saved-at n d name address bytes (s .x) f (s .at) in
-      let k = take-for n some′ few (length bytes) d (t .0) (t .1) size (t .2) in (
-        s .x,
-        t .0,
-        t .1,
-        s .lineIs,
-        t .2,
-        subst (λ (v : List ℕ). After n d v (fillFirst (fileSaved name bytes) (r .ls)) (s .x) (sectorsIn (t .0)) []) (sym (t .3))
-            (conclude-for (s .named) (s .short) (s .x) (l .0) (l .1) (l .2) (l .3) (l .4) (t .0) (t .1) (k .0) (k .1) (k .2)),
-      )
+      let k = take-for n some′ few (length bytes) d (t .0) (t .1) size (t .2) in
+      let q =
+      subst
+      (λ (v : List ℕ). After n d v (fillFirst (fileSaved name bytes) (r .ls)) (s .x) (sectorsIn (t .0)) [] × Filled n (length bytes) v (s .x) (t .0) (t .1)) (sym (t .3))
+      (conclude-for (s .named) (s .short) (s .x) (l .0) (l .1) (l .2) (l .3) (l .4) (t .0) (t .1) (k .0) (k .1) (k .2)) in
+      (s .x, t .0, t .1, s .lineIs, t .2, q .0, q .1)

@@ -1,7 +1,7 @@
 -- What a search finds: a sector of the disk, free in the map, on an open track. Assumes nothing.
 use mathlib.Core.Path.{_≡_, refl, sym}
 use mathlib.Core.Bool.{Bool, true, false, not, _&&_}
-use mathlib.Core.List.{List, [], _∷_, map, flatMap}
+use mathlib.Core.List.{List, [], _∷_}
 use mathlib.Core.Option.{Option, none, some}
 use Prim.Native.Nat.{ℕ, zero, suc, _+_, _-_, _<_, _≤_}
 use native.Mathlib.Omega.{arith}
@@ -42,6 +42,12 @@ module _ {A : Type 0} (test : A → Bool) where
   none-first (y ∷ xs) e =
       by-test (test y) (λ q. absurd (let w : some y ≡ none = rw q at e in let z : _≡_ {A = ℕ} 0 1 = cc in omega arith))
       (λ q. Every.more q (none-first xs (rw q at e)))
+
+-- two tests that agree on a list find the same
+pub first-same : {A : Type 0} (f g : A → Bool) {xs : List A} → Every (λ (x : A). f x ≡ g x) xs → firstOf f xs ≡ firstOf g xs
+unfolding firstOf
+first-same f g Every.none = refl
+first-same f g (Every.more e es) = rw (e, first-same f g es) refl
 
 -- nothing was found
 pub found-none : {A : Type 0} (o : Option A) (r q : Refusal) → found o r ≡ refused q → o ≡ none
@@ -85,7 +91,7 @@ module _ (n : ℕ) (d : List ℕ) (some′ : 0 < n) where
   abbrev Spotted : Spot → Type 0
   Spotted q = (onDisk n (q .place) ≡ true) × (q .direction < 256)
 
-  spots-spotted : Every Spotted (spots n d)
+  pub spots-spotted : Every Spotted (spots n d)
   unfolding spots spotsOf
   spots-spotted =
       let b : ℕ = byteOf n d vtoc 48 in

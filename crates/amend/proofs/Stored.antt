@@ -22,7 +22,7 @@ use Rattle.disk.specs.declared.Place.{Place}
 use Rattle.disk.specs.Disk.{place, bytesOf, onDisk}
 use Rattle.disk.proofs.Chain.{Chained, Link, chained-walk}
 use Rattle.disk.proofs.Chain
-use Rattle.catalog.specs.Catalog.{Entry, shown}
+use Rattle.catalog.specs.Catalog.{Entry}
 use Rattle.files.specs.Contents.{pairsOf, isPair, maxPairs, nextList, wholeLink, soundList, listWalk, lists, bytesIn, fileOf}
 use Rattle.files.proofs.Order.{file-gives}
 use Rattle.records.specs.Records.{fileRecord}
@@ -160,13 +160,14 @@ module _ (n : ℕ) (e : List ℕ) (x : Entry) (g : Part) (gs : List Part) (addre
   abbrev ls : List Place
   ls = map (λ (h : Part). h .list) (g ∷ gs)
 
-  lists-are : lists n e x ≡ given ls
+  -- its lists, and their pairs
+  pub lists-are : lists n e x ≡ given ls
   unfolding listWalk
   lists-are =
       let c : Chained n (soundList n e) (nextList n e) (x .list) ls = rw at (lists-chain n e g gs 0 (dataFor (length bytes)) false stand shape takes) in
       chained-walk n (soundList n e) (nextList n e) (x .list) ls c
 
-  pairs-are : flatMap (pairsOf n e) ls ≡ dataOf (g ∷ gs)
+  pub pairs-are : flatMap (pairsOf n e) ls ≡ dataOf (g ∷ gs)
   pairs-are = lists-pairs n e (g ∷ gs) 0 (dataFor (length bytes)) false stand shape takes′
 
   all-on : all (onDisk n) (flatMap (pairsOf n e) ls) ≡ true

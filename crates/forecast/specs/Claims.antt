@@ -100,7 +100,7 @@ pub record Foretold (n : ℕ) (d : List ℕ) (ss : List Planned) (f : Forecast) 
   -- a save is accepted, or it ends in 21; it is marked just where it ends in 21
   pub only : Every (λ (a : ℕ). (a ≡ 0) ⊎ (a ≡ 21)) (answersTo n d (map saveOf ss))
   pub marks : f .marks ≡ map markOf (answersTo n d (map saveOf ss))
-  -- the disk after them has just as many data sectors, lists and lines in use more
+  -- the disk after them has just so many more data sectors, lists and lines in use
   pub needs : (u : Used) → used n d ≡ given u → used n (run n d (map saveOf ss)) ≡ given (plus u f)
 
 -- Req 11, for disks of n sectors a track
