@@ -3,7 +3,7 @@ use mathlib.Core.Path.{_≡_, refl, sym, ap, _∙_}
 use mathlib.Core.Bool.{Bool, true, false, not}
 use mathlib.Core.List.{List, [], _∷_, _++_, flatMap, append-nil}
 use mathlib.Core.Option.{Option, none, some}
-use Prim.Native.Nat.{ℕ, _+_, _*_, _/_, _%_, _<_, _≤_, _^_}
+use Prim.Native.Nat.{ℕ, _+_, _*_, _<_, _≤_, _^_}
 use native.Mathlib.Omega.{arith}
 use lib.ListN.{length, getD, replicate}
 use borrow.Author.Tests.{lt-leb, le-leb, not-true, not-false}
@@ -253,18 +253,6 @@ module _ (d : List ℕ) (x : ℕ) (h : Erasable d x) where
 pub ruleset erases = (erase-long, erase-fits, erase-linked, erase-done, needs)
 
 -- ---- a file stored
--- how many sectors it takes
-pub data-is : (k : ℕ) → k / 256 + (k % 256 + 259) / 256 ≡ dataFor k
-data-is k = omega arith
-
-pub lists-is : (m : ℕ) → m / 122 + (m % 122 + 121) / 122 ≡ listsFor m
-lists-is m = omega arith
-
-pub sectors-small : (k : ℕ) → k ≤ 32768 → listsFor (dataFor k) + dataFor k ≤ 131
-sectors-small k h = omega arith
-
-pub ruleset counts = (data-is, lists-is, sectors-small, needs)
-
 -- its entry
 made-is : (p : Place) (name : List ℕ) (count : ℕ) (out : List ℕ) (r : Handed) → Hands (entryWritten p 4 false name count) (replicate 35 0) out r
     → savable name ≡ true → out ≡ entryRecord p 4 false name count
