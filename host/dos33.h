@@ -4,14 +4,16 @@
  *
  * A flat disk is 35 tracks of sectors of 256 bytes. Its length alone says how many a track has:
  * 143,360 bytes are 16 (DOS 3.3), 116,480 bytes are 13 (DOS 3.2). Every function that takes a flat
- * disk takes both; only dos33_nibblize, dos33_save and dos33_delete refuse 116,480 bytes, as 1.
+ * disk takes both; only dos33_nibblize, dos33_save, dos33_delete and dos33_forecast refuse 116,480
+ * bytes, as 1.
  * A nibble stream is read as the caller says: dos33_denibblize and dos33_sector go by the address
  * mark D5 AA 96 (h) and 6-and-2 coding, those with _13 by D5 AA B5 (h) and 5-and-3. A stream that
  * both can read stands for two disks. Which mark comes first: dos33_recognize_prologue.
  *
  * Duties of the caller, for every function:
  *   - each pointer is valid for its length, and not null, even where the length is 0;
- *   - `length` points to one uint64_t; the lengths of `fields` and `run` are in elements;
+ *   - `length` points to one uint64_t; the lengths of `lengths`, `fields` and `run` are in
+ *     elements;
  *   - what is lent to be written (`out`, `length`, `fields`, `run`, and the `disk` of dos33_save and
  *     dos33_delete) overlaps nothing else that is lent.
  * There is no other: any bytes and any numbers may be handed in.
@@ -32,7 +34,8 @@
  *   - Time: dos33_archive_entry goes through all of the archive, dos33_archive_step looks at one
  *     block. dos33_file, dos33_fetch and dos33_lists judge every file of the disk; for all files at
  *     once: dos33_archive_write, dos33_archive_open, then dos33_archive_step entry by entry.
- *     dos33_save and dos33_delete judge every file, and count the holders of every sector, each time.
+ *     dos33_save, dos33_delete and dos33_forecast judge every file, and count the holders of every
+ *     sector, each time.
  *   - Time on streams: dos33_sector and dos33_sector_13 look for the first field of a key at each
  *     field with a wrong sum that repeats one. Where these are many, the time grows with the square
  *     of the stream's length: streams made for it, half bytes D5h and half such fields, took 0.12 s
@@ -53,7 +56,8 @@ extern "C" {
 enum {
     DOS33_ACCEPTED = 0,
     DOS33_OFF_SIZE = 1,         /* flat disk neither 143,360 nor 116,480 bytes (to nibblize, to save
-                                   to, to delete from: not 143,360); sector to encode not 256 */
+                                   to, to delete from, to forecast for: not 143,360); sector to
+                                   encode not 256 */
     DOS33_NO_TABLE = 2,         /* VTOC: tracks not 35 or 40, sectors not 16 or 13 (on a disk
                                    of 13 sectors a track: not 13) */
     DOS33_OFF_DISC = 3,         /* a page, list, pair or location is not on the disk */
@@ -74,10 +78,11 @@ enum {
     DOS33_PAGE_FULL = 16,       /* over 7 entries */
     DOS33_CUT_SHORT = 17,       /* too few bytes to recognise */
     DOS33_NOT_ON_ROLL = 18,     /* no entry has the name asked for */
-    DOS33_NOT_CLEAN = 20,       /* to save to or to delete from: a sector is shared, or a held one
-                                   is free in the map (dos33_holders) */
+    DOS33_NOT_CLEAN = 20,       /* to save to, to delete from, to forecast for: a sector is shared,
+                                   or a held one is free in the map (dos33_holders) */
     DOS33_NO_SPACE = 21,        /* no sector or no entry line for a save, or data over 32,768 */
-    DOS33_NAME_TAKEN = 22       /* an entry shows the name to save */
+    DOS33_NAME_TAKEN = 22,      /* an entry shows the name to save */
+    DOS33_PLAN_LONG = 25        /* over 64 lengths to forecast */
 };
 
 /* File types. Any other code is Unknown. */
@@ -112,6 +117,7 @@ enum {
     DOS33_PAIRS_MOST = 2 * DOS33_PAIR_RUN_MOST, /* pairs, in bytes */
     DOS33_FILE_MOST = 65536,        /* file, fetch */
     DOS33_SAVE_MOST = 32768,        /* the most bytes that save takes */
+    DOS33_PLAN_MOST = 64,           /* the most lengths that forecast takes */
     DOS33_ARCHIVE_MOST = 1048576,   /* archive_write: 256 * 4096 */
     DOS33_NIBBLES_SIZE = 343,       /* encode_sector: a sector in 6-and-2, and the sum */
     DOS33_NIBBLES_SIZE_13 = 411,    /* a sector in 5-and-3, and the sum; it is read, not written */
@@ -120,6 +126,7 @@ enum {
     DOS33_VTOC_FIELDS = 13,
     DOS33_SURVEY_FIELDS = 7,
     DOS33_HOLDERS_FIELDS = 5,
+    DOS33_FORECAST_FIELDS = 3,      /* forecast, and one for each length */
     DOS33_OPEN_FIELDS = 3,
     DOS33_STEP_FIELDS = 8,
     DOS33_FORMAT_FIELDS = 1
@@ -212,6 +219,16 @@ uint8_t dos33_save(uint8_t *disk, size_t disk_length,
    byte 0 cannot be deleted so: 14. 1 (also for 116,480 bytes) to 6, 20, 14, 18. */
 uint8_t dos33_delete(uint8_t *disk, size_t disk_length,
                      const uint8_t *name, size_t name_length);
+
+/* What saves of these lengths (bytes of data), one after the other, will need, without writing. 3
+   numbers and one for each length: data sectors, list sectors and entry lines needed in all, by the
+   saves that would be accepted; then for each length 1 where its save would end in 21, else 0. Names
+   are taken as new and allowed. A save that would end in 21 needs nothing, and those behind it are told
+   as if it had not been. Each length may be any number. 25 for over DOS33_PLAN_MOST lengths, then 1
+   (also for 116,480 bytes) to 6, 20, 12. */
+uint8_t dos33_forecast(const uint8_t *disk, size_t disk_length,
+                       const uint64_t *lengths, size_t lengths_length,
+                       uint64_t *fields, size_t fields_length);
 
 /* The disk's archive. It does not tell how many sectors a track has: disks of 16 and of 13 with the
    same contents have the same archive. 1 to 6, 7, 12. */

@@ -1,8 +1,8 @@
 use crate::types::locations;
 use crate::{
     denibblize, denibblize_13, lend, nibblize, raw, Archive, ArchiveEntry, CatalogEntry, File,
-    FileType, Holders, Location, Name, Refusal, Sector, Survey, Track, TrackSectorPair, Vtoc,
-    LIST_PAIRS, SECTORS_PER_TRACK, TRACKS,
+    FileType, Forecast, Holders, Location, Name, Refusal, Sector, Survey, Track, TrackSectorPair, Vtoc,
+    LIST_PAIRS, PLAN_MOST, SECTORS_PER_TRACK, TRACKS,
 };
 
 // The most that each call can need. A disk of 13 sectors a track has less of everything.
@@ -391,6 +391,53 @@ impl<'a> Disk<'a> {
     /// 1 to 6.
     pub fn is_clean(&self) -> Result<bool, Refusal> {
         Ok(self.holders()?.clean)
+    }
+
+    /// Will it go on? What saves of these lengths, one after the other, will need, without writing: up to
+    /// [`PLAN_MOST`](crate::PLAN_MOST) lengths, in bytes of data. Names are taken as new and allowed. A save
+    /// that would end in [`Refusal::NoSpace`] needs nothing, and those behind it are told as if it had not
+    /// been. [`DiskMut::save`](crate::DiskMut::save) with files of these lengths does just so.
+    ///
+    /// ```
+    /// use dos33::{Disk, DiskMut, Refusal};
+    ///
+    /// // A disk with one page, and six free sectors on track 20.
+    /// let mut bytes = vec![0; dos33::DISK_SIZE];
+    /// let vtoc = 4096 * 17;
+    /// bytes[vtoc + 1..][..2].copy_from_slice(&[17, 15]);
+    /// bytes[vtoc + 48..][..2].copy_from_slice(&[18, 1]); // last track, direction
+    /// bytes[vtoc + 52..][..2].copy_from_slice(&[35, 16]);
+    /// bytes[vtoc + 56 + 4 * 20] = 0xFC;
+    ///
+    /// // A list and one data sector; too much; a list and three.
+    /// let forecast = Disk::flat(&bytes).forecast(&[200, 1000, 600])?;
+    /// assert_eq!(forecast.no_space, [false, true, false]);
+    /// assert_eq!((forecast.data_sectors, forecast.list_sectors, forecast.entry_lines), (4, 2, 2));
+    /// assert!(!forecast.all_go_on());
+    ///
+    /// // The saves do so.
+    /// let mut disk = DiskMut::flat(&mut bytes);
+    /// assert_eq!(disk.save("A", 0, &[1; 200]), Ok(()));
+    /// assert_eq!(disk.save("B", 0, &[2; 1000]), Err(Refusal::NoSpace));
+    /// assert_eq!(disk.save("C", 0, &[3; 600]), Ok(()));
+    /// # Ok::<(), Refusal>(())
+    /// ```
+    ///
+    /// # Errors
+    /// 25, 1 to 6, 20. A disk of 13 sectors a track is 1.
+    pub fn forecast(&self, lengths: &[u64]) -> Result<Forecast, Refusal> {
+        let d = self.bytes();
+        let (l, k) = (lengths.as_ptr(), lengths.len());
+        // SAFETY: as in `catalog`.
+        let f: [u64; 3 + PLAN_MOST] = lend::numbers(|p, n| unsafe {
+            raw::dos33_forecast(d.as_ptr(), d.len(), l, k, p, n)
+        })?;
+        Ok(Forecast {
+            data_sectors: f[0] as u16,
+            list_sectors: f[1] as u16,
+            entry_lines: f[2] as u16,
+            no_space: f[3..].iter().take(k).map(|mark| *mark != 0).collect(),
+        })
     }
 
     /// The disk's archive; [`Archive::open`](crate::Archive::open) steps through it.

@@ -41,8 +41,8 @@
 //!
 //! A flat disk's length alone says its edition: [`DISK_SIZE`] bytes are 16 sectors a track (DOS 3.3),
 //! [`DISK_SIZE_13`] bytes are 13 (DOS 3.2). Every call on a [`Disk`] takes both, but
-//! [`Disk::nibblize`], which refuses 13 as 1: their streams are read, not written. So do the calls on a
-//! [`DiskMut`]. The archive is the same for the same contents on either.
+//! [`Disk::nibblize`] and [`Disk::forecast`], which refuse 13 as 1: such disks are read, not written. So do
+//! the calls on a [`DiskMut`]. The archive is the same for the same contents on either.
 //!
 //! A stream's edition is said by the call and never guessed: [`Disk::nibbles`], [`denibblize`] and
 //! [`stream_sector`] read 16, [`Disk::nibbles_13`], [`denibblize_13`] and [`stream_sector_13`] read 13.
@@ -60,6 +60,7 @@
 //! | window, survey | [`Disk::sector`], [`Disk::survey`] |
 //! | crossed threads | [`Disk::holders`], [`Disk::is_clean`] |
 //! | saving, deleting | [`DiskMut::save`], [`DiskMut::delete`] |
+//! | what saves will need | [`Disk::forecast`] |
 //! | return | [`Disk::archive`], [`Disk::check`], [`Archive`] |
 //! | unroll, nibble writer | [`denibblize`], [`denibblize_13`], [`nibblize`] |
 //! | slip, number | [`Refusal`], [`Refusal::number`] |
@@ -73,7 +74,7 @@
 //! grows with the square of the stream's length.
 //!
 //! Later versions may add refusals, and fields to what is answered: [`Refusal`], [`CatalogEntry`],
-//! [`File`], [`Vtoc`], [`Survey`] and [`Holders`] are `non_exhaustive`.
+//! [`File`], [`Vtoc`], [`Survey`], [`Holders`] and [`Forecast`] are `non_exhaustive`.
 #![warn(missing_docs)]
 
 mod archive;
@@ -96,7 +97,7 @@ pub use nibbles::{
 pub use records::{binary_file, catalog_page, EntryRecord};
 pub use refusal::Refusal;
 pub use types::{
-    CatalogEntry, File, FileType, Holders, Location, Name, RawName, Sector, Survey, Track,
+    CatalogEntry, File, FileType, Forecast, Holders, Location, Name, RawName, Sector, Survey, Track,
     TrackSectorPair, Vtoc,
 };
 
@@ -120,6 +121,9 @@ pub const STREAM_SIZE: usize = 232_960;
 
 /// The most bytes that a save takes: [`DiskMut::save`].
 pub const SAVE_MOST: usize = 32_768;
+
+/// The most lengths that a forecast takes: [`Disk::forecast`].
+pub const PLAN_MOST: usize = 64;
 
 /// The pairs that a track/sector list has at most: bytes 12 to 255 of its sector. So much space is
 /// always enough for [`Disk::pair_run`].

@@ -1,10 +1,10 @@
 //! The exported functions as they are. The safe calls of this crate stand on them.
 //!
 //! A flat disk is 143,360 bytes (16 sectors a track) or 116,480 (13); its length alone says which.
-//! Only [`dos33_nibblize`], [`dos33_save`] and [`dos33_delete`] refuse the second. A stream is read by the
-//! coding that the caller names.
+//! Only [`dos33_nibblize`], [`dos33_save`], [`dos33_delete`] and [`dos33_forecast`] refuse the second. A
+//! stream is read by the coding that the caller names.
 //!
-//! A slice is a pointer and a length (of `fields` and `run`: in elements). The result is the number of
+//! A slice is a pointer and a length (of `lengths`, `fields` and `run`: in elements). The result is the number of
 //! a refusal, 0 for accepted; only [`dos33_recognize_prologue`] gives something else. Under a refusal
 //! nothing lent changes. Where a call is accepted, `out` receives the bytes and `*length` their number,
 //! `run` the pairs and `*length` their number, or `fields` its numbers; what lies past them keeps its
@@ -147,6 +147,18 @@ extern "C" {
         disk_length: usize,
         name: *const u8,
         name_length: usize,
+    ) -> u8;
+
+    /// What saves of these lengths, one after the other, will need, without writing. 3 numbers and one for
+    /// each length: data sectors, list sectors and entry lines needed in all, by the saves that would be
+    /// accepted; then for each length 1 where its save would end in 21, else 0. Refusals 25, 1 to 6, 20, 12.
+    pub fn dos33_forecast(
+        disk: *const u8,
+        disk_length: usize,
+        lengths: *const u64,
+        lengths_length: usize,
+        fields: *mut u64,
+        fields_length: usize,
     ) -> u8;
 
     /// The disk's archive. Refusals 1 to 6, 7, 12.

@@ -21,8 +21,8 @@ const WORD_MOST: usize = 15;
 #[derive(Clone, Copy, Debug, PartialEq, Eq, Hash, PartialOrd, Ord)]
 #[non_exhaustive]
 pub enum Refusal {
-    /// 1: a flat disk that is neither 143,360 nor 116,480 bytes (to nibblize, to save to and to delete
-    /// from: not 143,360), or a sector to encode that is not 256.
+    /// 1: a flat disk that is neither 143,360 nor 116,480 bytes (to nibblize, to save to, to delete from
+    /// and to forecast for: not 143,360), or a sector to encode that is not 256.
     OffSize,
     /// 2: the VTOC's tracks are not 35 or 40, or its sectors not 13 or 16; on a disk of 13 sectors a
     /// track: not 13.
@@ -62,19 +62,21 @@ pub enum Refusal {
     CutShort,
     /// 18: no entry has the name asked for.
     NotOnRoll,
-    /// 20: a disk to save to or to delete from is not clean, as [`Holders::clean`](crate::Holders::clean)
-    /// says.
+    /// 20: a disk to save to, to delete from or to forecast for is not clean, as
+    /// [`Holders::clean`](crate::Holders::clean) says.
     NotClean,
     /// 21: no sector or no entry line is left for a save, or its data is over 32,768 bytes.
     NoSpace,
     /// 22: an entry of the catalog shows the name to save.
     NameTaken,
+    /// 25: over 64 lengths to forecast.
+    PlanLong,
     /// A number that no refusal has. No function gives one.
     Unnamed(u8),
 }
 
 impl Refusal {
-    /// All of them, in the order of their numbers: 1 to 18, then 20 to 22.
+    /// All of them, in the order of their numbers: 1 to 18, 20 to 22, 25.
     pub const ALL: &'static [Refusal] = &[
         Refusal::OffSize,
         Refusal::NoTable,
@@ -97,6 +99,7 @@ impl Refusal {
         Refusal::NotClean,
         Refusal::NoSpace,
         Refusal::NameTaken,
+        Refusal::PlanLong,
     ];
 
     /// The refusal with this number; none for 0, which means accepted.
@@ -137,6 +140,7 @@ impl Refusal {
             Refusal::NotClean => 20,
             Refusal::NoSpace => 21,
             Refusal::NameTaken => 22,
+            Refusal::PlanLong => 25,
             Refusal::Unnamed(n) => n,
         }
     }

@@ -280,3 +280,25 @@ pub struct Holders {
     /// Whether the disk is clean: no sector is shared, and the map calls no held one free.
     pub clean: bool,
 }
+
+/// What saves of given lengths will need: [`Disk::forecast`](crate::Disk::forecast). The sums are of the saves
+/// that would be accepted; one that would end in [`Refusal::NoSpace`](crate::Refusal::NoSpace) needs nothing.
+#[derive(Clone, Debug, PartialEq, Eq, Hash)]
+#[non_exhaustive]
+pub struct Forecast {
+    /// Data sectors in all.
+    pub data_sectors: u16,
+    /// Sectors of track/sector lists in all.
+    pub list_sectors: u16,
+    /// Entry lines in all: one for each save that would be accepted.
+    pub entry_lines: u16,
+    /// For each length, whether its save would end in [`Refusal::NoSpace`](crate::Refusal::NoSpace).
+    pub no_space: Vec<bool>,
+}
+
+impl Forecast {
+    /// Whether every save would be accepted.
+    pub fn all_go_on(&self) -> bool {
+        !self.no_space.contains(&true)
+    }
+}

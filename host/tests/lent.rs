@@ -160,6 +160,21 @@ fn calls_on_a_flat_disk() {
         refuses_numbers(1, &|f, m| dos33_holders(p, n - 1, f, m));
         refuses_numbers(4, &|f, m| dos33_holders(rp, n, f, m));
         refuses_numbers(6, &|f, m| dos33_holders(lp, n, f, m));
+        // The free sectors are on track 0: none is taken.
+        let plan = [0u64, 32_768, u64::MAX];
+        let (q, k) = (plan.as_ptr(), plan.len());
+        let forecast = hands_numbers(6, &|f, m| dos33_forecast(p, n, q, k, f, m));
+        assert_eq!(forecast, [0, 0, 0, 1, 1, 1]);
+        assert_eq!(
+            hands_numbers(3, &|f, m| dos33_forecast(p, n, q, 0, f, m)),
+            [0, 0, 0]
+        );
+        refuses_numbers(1, &|f, m| dos33_forecast(p, n - 1, q, k, f, m));
+        refuses_numbers(4, &|f, m| dos33_forecast(rp, n, q, k, f, m));
+        refuses_numbers(6, &|f, m| dos33_forecast(lp, n, q, k, f, m));
+        let long = [1u64; 65];
+        refuses_numbers(25, &|f, m| dos33_forecast(p, n, long.as_ptr(), 65, f, m));
+        refuses_numbers(25, &|f, m| dos33_forecast(p, 0, long.as_ptr(), 65, f, m));
 
         let (a, k) = (archive.as_ptr(), archive.len());
         assert_eq!(
@@ -315,6 +330,9 @@ fn calls_on_a_flat_disk_of_13() {
         refuses_numbers(2, &|f, m| dos33_holders(tp, n, f, m));
         refuses_numbers(4, &|f, m| dos33_holders(rp, n, f, m));
         refuses(1, &|o, m, l| dos33_nibblize(p, n, o, m, l));
+        refuses_numbers(1, &|f, m| {
+            dos33_forecast(p, n, [1].as_ptr(), 1, f, m)
+        });
     }
 }
 

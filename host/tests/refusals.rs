@@ -28,7 +28,7 @@ fn deep(d: &[u8], due: Refusal) {
     amended(d, due);
 }
 
-// So do a save and a delete, and the disk stays as it was. The same where the map calls the VTOC free: 20 comes behind.
+// So do a save and a delete, and the disk stays as it was, and a forecast. The same where the map calls the VTOC free: 20 comes behind.
 fn amended(d: &[u8], due: Refusal) {
     let mut dirty = d.to_vec();
     if let Some(bits) = dirty.get_mut(at(17, 0) + 56 + 4 * 17 + 1) {
@@ -41,6 +41,10 @@ fn amended(d: &[u8], due: Refusal) {
             assert_eq!(disk.save(name, 1, data), Err(due));
             assert_eq!(disk.delete(name), Err(due));
         }
+        for lengths in [&[][..], &[0], &[u64::MAX; 64]] {
+            assert_eq!(disk.disk().forecast(lengths), Err(due));
+        }
+        assert_eq!(disk.disk().forecast(&[0; 65]), Err(Refusal::PlanLong));
         assert_eq!(e, before);
     }
 }

@@ -43,6 +43,7 @@ int main(void) {
     static const uint8_t name[] = {'L', 'I', 'N', 'E'};
     static const uint8_t other[] = {'O', 'T', 'H', 'E', 'R', ' '};
     static const uint8_t header[] = {0, 0, 0};
+    static const uint64_t plan[DOS33_PLAN_MOST + 1] = {200, 0};
     uint8_t data[300], listed[37] = {18, 2, DOS33_BINARY, 1, 4, 'L', 'I', 'N', 'E'};
     uint8_t small[4] = {1, 2, 3, 4};
     dos33_track_sector_pair run[3] = {{77, 78}, {77, 78}, {77, 78}};
@@ -197,6 +198,12 @@ int main(void) {
     EXPECT(memcmp(image, disk, sizeof disk) == 0);
     image[4096 * 17 + 56 + 4 * 20] = 0xC0;
     image[4096 * 17 + 48] = 18;
+    /* One save takes them; two need more. */
+    f[4] = 66;
+    EXPECT(dos33_forecast(image, sizeof image, plan, 2, f, DOS33_FORECAST_FIELDS + 1) == DOS33_TRAY_SHORT && f[4] == 66);
+    EXPECT(dos33_forecast(image, sizeof image, plan, 2, f, DOS33_FORECAST_FIELDS + 2) == 0);
+    EXPECT(f[0] == 1 && f[1] == 1 && f[2] == 1 && f[3] == 0 && f[4] == 1);
+    EXPECT(dos33_forecast(image, sizeof image, plan, DOS33_PLAN_MOST + 1, f, sizeof f / sizeof *f) == DOS33_PLAN_LONG);
     EXPECT(dos33_save(image, sizeof image, name, 4, 0x4000, data, 200) == DOS33_NAME_TAKEN);
     EXPECT(dos33_save(image, sizeof image, other, 6, 0x4000, data, 200) == DOS33_UNWRITABLE_NAME);
     EXPECT(dos33_save(image, sizeof image, other, 5, 0x4000, data, 253) == DOS33_NO_SPACE);
@@ -216,6 +223,7 @@ int main(void) {
     image[4096 * 17 + 56 + 4 * 20] = 0x80;
     EXPECT(dos33_save(image, sizeof image, name, 0, 0, data, 0) == DOS33_NOT_CLEAN);
     EXPECT(dos33_delete(image, sizeof image, other, 5) == DOS33_NOT_CLEAN);
+    EXPECT(dos33_forecast(image, sizeof image, plan, 2, f, DOS33_FORECAST_FIELDS + 2) == DOS33_NOT_CLEAN);
 
     /* 13 sectors a track: sector 12 of track 17 ends in FFh. */
     size = thirteen();
@@ -256,6 +264,7 @@ int main(void) {
     EXPECT(dos33_nibblize(image, DOS33_DISK_SIZE_13, stream, sizeof stream, &n) == DOS33_OFF_SIZE);
     EXPECT(dos33_save(image, DOS33_DISK_SIZE_13, other, 5, 0, data, 1) == DOS33_OFF_SIZE);
     EXPECT(dos33_delete(image, DOS33_DISK_SIZE_13, other, 5) == DOS33_OFF_SIZE);
+    EXPECT(dos33_forecast(image, DOS33_DISK_SIZE_13, plan, 2, f, DOS33_FORECAST_FIELDS + 2) == DOS33_OFF_SIZE);
 
     /* Nothing lent changes under a refusal. */
     n = 99;

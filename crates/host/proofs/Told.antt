@@ -37,7 +37,15 @@ exports o b a h n m r u t =
     let g = answered (handed o b) h n m r (u .answer) t in
     record { result = g .0; left = u .left; length = g .1 }
 
-pub ruleset exporting = (exports, needs)
+-- .. and so are numbers
+number-told : {A : Type 0} (p : Outcome (List A)) (h : Handed) → h ≡ answerOf p → h .refusal ≡ number p
+number-told (refused q) h e = ap (λ (y : Handed). y .refusal) e
+number-told (given w) h e = ap (λ (y : Handed). y .refusal) e
+
+pub fields-told : (o : Outcome (List ℕ)) (b a : List ℕ) (h : Handed) → Hands o b a h → Fields o b a (h .refusal)
+fields-told o b a h u = record { result = number-told (handed o b) h (u .answer); left = u .left }
+
+pub ruleset exporting = (exports, fields-told, needs)
 
 pub yes-is : (b : ℕ) → (b ≡ 0 → ⊥) → yes b ≡ true
 yes-is b h = rw (ne-eqb _ _ h) refl

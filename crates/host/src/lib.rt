@@ -12,6 +12,7 @@ ghost use Rattle.pairs.specs.Run.{pairRun};
 ghost use Rattle.files.specs.Chosen.{fileOfNumber, listsOfNumber};
 ghost use Rattle.amend.specs.Save.{saved, deleted};
 ghost use Rattle.saving.specs.Saving.{Amended};
+ghost use Rattle.forecast.specs.Forecast.{forecastNumbers};
 ghost use Rattle.nibble.specs.Nibble.{encoded};
 ghost use Rattle.fields.specs.declared.Edition.the-variants.{Sixteen, Thirteen};
 ghost use Rattle.stream.specs.Stream.{image, sectorOf};
@@ -450,6 +451,15 @@ pub extern "C" fn dos33_holders(disk: &[u8], fields: &mut [u64]) -> u8
         bit(h.clean),
     ];
     put_fields(&values, fields)
+}
+
+// What saves of these lengths, in order, will need: data sectors, list sectors and entry lines in all, then for each length 1 where its save would end in 21,
+// else 0. 25, 1 to 6, 20, 12.
+#[no_mangle]
+pub extern "C" fn dos33_forecast(disk: &[u8], lengths: &[u64], fields: &mut [u64]) -> u8
+    ensures { λ r. ⌜ Fields (forecastNumbers (now (disk .entry)) (now (lengths .entry))) (now (fields .entry)) (now (fields .exit)) r ⌝ }
+{
+    forecast::forecast(disk, lengths, fields).refusal
 }
 
 // The numbers of an archive that is opened. 13, 12.
