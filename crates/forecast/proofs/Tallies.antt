@@ -13,8 +13,7 @@ use borrow.Author.Needs.{needs}
 use Rattle.lists.specs.Fill.{put}
 use Rattle.lists.proofs.Put.{Put, length-put, put-none, put-one, put-is, put-front, put-3}
 use Rattle.outcome.specs.declared.Refusal.the-variants.{NoSpace}
-use Rattle.outcome.specs.Outcome.{refused, given}
-use Rattle.disk.specs.Disk.{start, bytesOf}
+use Rattle.disk.specs.Disk.{start}
 use Rattle.disk.specs.Vtoc.{vtoc}
 use Rattle.amend.specs.Save.{dataFor, listsFor}
 use Rattle.allot.proofs.Working.{table-is}

@@ -5,21 +5,19 @@ use mathlib.Core.List.{List}
 use Prim.Native.Nat.{ℕ, _+_, _*_, _<_, _≤_, _^_}
 use native.Mathlib.Omega.{arith}
 use lib.ListN.{length, replicate, length-replicate}
-use lib.Dec.{leb, ltb}
 use borrow.Author.Tests.{lt-leb, le-leb, lt-ltb, not-true, not-false}
 use borrow.Author.Needs.{needs}
 use Rattle.lists.specs.Fill.{put, placed}
 use Rattle.lists.proofs.Split.{clash}
 use Rattle.lists.proofs.Put.{placed-put, put-whole}
-use Rattle.outcome.specs.declared.Refusal.the-variants.{NoSpace}
-use Rattle.outcome.specs.Outcome.{refused, given}
+use Rattle.outcome.specs.Outcome.{given}
 use Rattle.disk.specs.Disk.{start}
 use Rattle.disk.specs.Vtoc.{vtoc}
-use Rattle.amend.specs.Save.{dataFor, listsFor, takeFor}
+use Rattle.amend.specs.Save.{dataFor, listsFor}
 use Rattle.allot.specs.Table.{Allotted}
 use Rattle.allot.proofs.Allots.{table-long, places-fit, allotted-none, allotted-all}
 use Rattle.forecast.specs.Forecast.{tried}
-use Rattle.forecast.specs.Steps.{Has, Sought, Tried}
+use Rattle.forecast.specs.Steps.{Sought, Tried}
 
 -- ---- sectors sought
 -- how many fits in a word

@@ -2,24 +2,26 @@
 use mathlib.Core.Path.{_≡_}
 use mathlib.Core.Logic.{_⊎_}
 use mathlib.Core.Bool.{true, false, cond}
-use mathlib.Core.List.{List, [], _∷_, map, flatMap}
+use mathlib.Core.List.{List, [], _∷_, _++_, map, flatMap}
 use mathlib.Core.Option.{Option}
 use Prim.Native.Nat.{ℕ, _+_, _<_, _≤_}
-use lib.ListN.{length}
+use lib.ListN.{length, drop}
 use lib.Dec.{eqb}
 use Rattle.lists.specs.Fill.{Bytes}
 use Rattle.lists.specs.Every.{Every}
 use Rattle.lists.specs.Select.{any, filter}
 use Rattle.outcome.specs.declared.Refusal.{Refusal}
 use Rattle.outcome.specs.declared.Refusal.the-variants.{PlanLong}
-use Rattle.outcome.specs.Outcome.{Outcome, refused, given, _>>=_, each, number}
+use Rattle.outcome.specs.declared.Handed.{Handed}
+use Rattle.outcome.specs.Outcome.{Outcome, refused, given, _>>=_, each, number, acceptedWith, Hands}
 use Rattle.disk.specs.declared.Place.{Place}
 use Rattle.catalog.specs.Catalog.{entryFrom, pages}
 use Rattle.files.specs.Contents.{File, lists, pairsOf}
 use Rattle.amend.specs.Lines.{savable, starts, inUse, lines, tidy, holdsName}
 use Rattle.amend.specs.Amending.{Op, amend, kept, run, Clean}
 use Rattle.amend.specs.Amending
-use Rattle.forecast.specs.Forecast.{Forecast, forecast}
+use Rattle.saving.specs.Saving.{Amended}
+use Rattle.forecast.specs.Forecast.{Forecast, forecast, numbersIn, forecastNumbers}
 
 -- ---- saves as they will be asked for
 -- name, load address and bytes of one
@@ -118,3 +120,22 @@ pub record ForecastingOf (n : ℕ) : Type 0 where
 -- .. and that is 16 on the disks that are saved to
 abbrev pub Forecasting : Type 0
 Forecasting = ForecastingOf 16
+
+-- ---- of the calls
+-- saves in a row, each by the promise of its call: the disk d became e, and these numbers were answered
+pub data Saves : List ℕ → List Planned → (answers : List ℕ) → List ℕ → Type 0 where
+  none : {d : List ℕ} → Saves d [] [] d
+  more : {d e f : List ℕ} {s : Planned} {ss : List Planned} {rs : List ℕ} (r : ℕ) → Amended (amend 16 d (saveOf s)) d e r → Saves e ss rs f → Saves d (s ∷ ss) (r ∷ rs) f
+
+-- Req 11 of the calls: after a call of the forecast, lent elements that go from `before` to `after`, and its answer h
+pub record Foretelling : Type 0 where
+  -- on a clean disk, up to 64 lengths and enough elements are accepted
+  pub accepts : (d : List ℕ) → Clean 16 d → (ks before after : List ℕ) (h : Handed) → Hands (forecastNumbers d ks) before after h
+      → length ks ≤ 64 → 3 + length ks ≤ length before → h ≡ acceptedWith (3 + length ks)
+  -- what was handed over is what the calls of these saves then do: each is marked just where it answers 21, and the disk after has just so many data
+  -- sectors, lists and lines in use more
+  pub equals : (d : List ℕ) → Clean 16 d → (ls : List (Option File)) → lines 16 d ≡ given ls → (ss : List Planned) → Allowed ls ss
+      → (before after : List ℕ) (h : Handed) → Hands (forecastNumbers d (lengthsOf ss)) before after h → h .refusal ≡ 0
+      → (e rs : List ℕ) → Saves d ss rs e
+      → (f : Forecast) × (after ≡ numbersIn f ++ drop (length (numbersIn f)) before) × (f .marks ≡ map markOf rs)
+      × ((u : Used) → used 16 d ≡ given u → used 16 e ≡ given (plus u f))

@@ -3,17 +3,15 @@ use mathlib.Core.Path.{_≡_, refl, sym, ap, _∙_}
 use mathlib.Core.List.{List, [], _∷_}
 use Prim.Native.Nat.{ℕ}
 use native.Mathlib.Omega.{arith}
-use lib.ListN.{length}
 use Rattle.lists.specs.Every.{Every}
 use Rattle.lists.specs.Every
-use Rattle.lists.specs.Fill.{Bytes}
 use Rattle.outcome.specs.Refusal.{code}
 use Rattle.outcome.specs.Outcome.{Outcome, refused, given, number}
 use Rattle.outcome.proofs.Outcome.{code-pos}
 use Rattle.disk.specs.Disk.{perOf, sectors}
 use Rattle.files.specs.Survey.{fetched}
 use Rattle.amend.specs.Save.{saved}
-use Rattle.amend.specs.Amending.{Op, OfBytes, amend, kept, run, Clean}
+use Rattle.amend.specs.Amending.{Op, amend, kept, run, Clean}
 use Rattle.amend.specs.Amending as Amends
 use Rattle.amend.proofs.Reading.{contents-size, tidy-given}
 use Rattle.amend.proofs.Amending.{amending}

@@ -1,7 +1,7 @@
 -- What the tests of a save and a delete tell, one after the other. Assumes nothing.
 use mathlib.Core.Path.{_≡_, refl, sym, ap, _∙_}
 use mathlib.Core.Bool.{Bool, true, false, not}
-use mathlib.Core.List.{List, [], _∷_, _++_, flatMap, append-nil}
+use mathlib.Core.List.{List, [], _∷_, flatMap, append-nil}
 use mathlib.Core.Option.{Option, none, some}
 use Prim.Native.Nat.{ℕ, _+_, _*_, _<_, _≤_, _^_}
 use native.Mathlib.Omega.{arith}
@@ -22,11 +22,11 @@ use Rattle.outcome.proofs.Outcome.{number-0}
 use Rattle.disk.specs.declared.Place.{Place}
 use Rattle.disk.specs.Disk.{place, start, bytesOf, onDisk, sectors}
 use Rattle.disk.specs.Vtoc.{vtoc}
-use Rattle.catalog.specs.Catalog.{entryFrom, pages}
-use Rattle.files.specs.Contents.{Contents, contents, listWalk, lists, pairsOf, placeBytes}
+use Rattle.catalog.specs.Catalog.{entryFrom}
+use Rattle.files.specs.Contents.{Contents, listWalk, lists, pairsOf, placeBytes}
 use Rattle.records.specs.Records.{entryRecord, entryWritten}
 use Rattle.records.proofs.Entries.{length-record}
-use Rattle.holders.specs.Holders.{withPairs, sectorsOf}
+use Rattle.holders.specs.Holders.{withPairs}
 use Rattle.holders.proofs.Refusals.{sectors-given, sectors-on}
 use Rattle.amend.specs.Lines.{firstOf, lastOf, inUse, savable, starts, lineOf, openLine, tidy, holdsName}
 use Rattle.amend.specs.Search.{freed}

@@ -8,7 +8,7 @@ use lib.ListN.{length, take, drop, replicate, length-drop}
 use lib.Seq.{length-take-le}
 use Rattle.lists.specs.Fill.{put, placed}
 use lib.Dec.{eqb}
-use borrow.Author.Tests.{eq-eqb, ne-eqb, eqb-true, not-true, not-false}
+use borrow.Author.Tests.{eq-eqb, eqb-true, not-true, not-false}
 use borrow.Author.Needs.{needs}
 use Rattle.lists.specs.Every.{Every}
 use Rattle.lists.specs.Every
@@ -20,7 +20,7 @@ use Rattle.disk.specs.Vtoc.{vtoc}
 use Rattle.disk.proofs.Steps.{made, rest, rest-start, rest-within, rest-last, rest-on}
 use Rattle.outcome.specs.Outcome.{given}
 use Rattle.holders.specs.Holders.{withPairs}
-use Rattle.disk.proofs.Places.{on-track, on-sector}
+use Rattle.disk.proofs.Places.{on-track}
 use Rattle.files.specs.Contents.{pairAt, pairsOf, soundList, nextList, listWalk}
 use Rattle.files.proofs.Runs.{behind, stop, next, none-behind}
 use Rattle.amend.specs.Search.{freed}

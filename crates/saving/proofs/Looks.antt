@@ -1,6 +1,6 @@
 -- The lines of a disk looked along: the last of a name, the first that is not in use. Assumes nothing.
 use mathlib.Core.Path.{_≡_, refl, sym, ap, subst, _∙_}
-use mathlib.Core.Bool.{Bool, true, false, cond, not, _&&_}
+use mathlib.Core.Bool.{Bool, true, false, cond, not}
 use mathlib.Core.List.{List, [], _∷_, _++_, map, flatMap, foldl, append-assoc, append-nil, map-append}
 use mathlib.Core.Option.{Option, none, some}
 use Prim.Native.Nat.{ℕ, zero, suc, _+_, _*_, _<_, _≤_}
@@ -16,9 +16,9 @@ use Rattle.lists.proofs.Laws.{tab-suc}
 use Rattle.disk.specs.declared.Place.{Place}
 use Rattle.disk.specs.Disk.{start, linkOf}
 use Rattle.catalog.specs.Catalog.{validFile, shown, entryFrom, lastPage, firstPage}
-use Rattle.amend.specs.Lines.{firstOf, lastOf, isNamed, inUse, starts}
+use Rattle.amend.specs.Lines.{firstOf, lastOf, inUse, starts}
 use Rattle.saving.specs.declared.Sight.{Sight}
-use Rattle.saving.specs.Steps.{isSome, startOr0, sight, bears, idle, sightOf, seeLine, seeLines, seePage, LineSeen, PageSeen, Seen, Paged}
+use Rattle.saving.specs.Steps.{sight, bears, idle, sightOf, seeLine, seeLines, seePage, LineSeen, PageSeen, Seen, Paged}
 use Rattle.saving.proofs.Pass.{Passing, pass-none, pass-over, pass-last, pass-more}
 
 -- ---- one more behind

@@ -1,7 +1,7 @@
 -- The steps of a save and a delete: the lines looked along, and the sectors of a file called free in a copy of the VTOC.
 use mathlib.Core.Path.{_≡_}
 use mathlib.Core.Bool.{Bool, true, false, cond, not, _&&_}
-use mathlib.Core.List.{List, [], _∷_, flatMap, foldl}
+use mathlib.Core.List.{List, flatMap, foldl}
 use mathlib.Core.Option.{Option, none, some}
 use Prim.Native.Nat.{ℕ, zero, suc, _+_, _*_, _≤_}
 use lib.ListN.{length, replicate}
