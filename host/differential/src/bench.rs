@@ -42,6 +42,14 @@ mod raw {
             data_length: usize,
         ) -> u8;
         pub fn dos33_delete(d: *mut u8, n: usize, name: *const u8, name_length: usize) -> u8;
+        pub fn dos33_forecast(
+            d: *const u8,
+            n: usize,
+            lengths: *const u64,
+            lengths_length: usize,
+            fields: *mut u64,
+            count: usize,
+        ) -> u8;
         pub fn dos33_archive_write(
             d: *const u8,
             n: usize,
@@ -97,6 +105,13 @@ const SMALL: Kind = (1, 6);
 // What is saved: the largest file there is.
 const SAVED: usize = 32_768;
 const NAME: &[u8] = b"SAVED";
+
+// What a shift may plan: 64 files each of the same length.
+const PLANS: [(&str, u64); 3] = [
+    ("64 of 250 bytes foreseen", 250),
+    ("64 of 1,000 bytes", 1_000),
+    ("64 of 32,768 bytes", 32_768),
+];
 
 // A disk of Binary files, one list each.
 fn disk_of(random: &mut Random, (files, size): Kind) -> Vec<u8> {
@@ -178,6 +193,8 @@ struct Work<'c> {
     out: Vec<u8>,
     length: u64,
     fields: [u64; 7],
+    // Lengths to save.
+    plan: [u64; 64],
 }
 
 impl<'c> Work<'c> {
@@ -200,6 +217,7 @@ impl<'c> Work<'c> {
             out: vec![0; 1 << 20],
             length: 0,
             fields: [0; 7],
+            plan: [0; 64],
         };
         work.nibblize();
         work.stream = work.out[..work.length as usize].to_vec();
@@ -267,6 +285,17 @@ impl<'c> Work<'c> {
             unsafe { raw::dos33_save(d, n, NAME.as_ptr(), NAME.len(), 0x2000, a, size) },
             0
         );
+    }
+
+    // On the disk with room: how many of them go on.
+    fn forecast(&mut self) -> u64 {
+        let (d, n) = (self.roomy.as_ptr(), self.roomy.len());
+        let fields = &mut [0; 67];
+        assert_eq!(
+            unsafe { raw::dos33_forecast(d, n, self.plan.as_ptr(), 64, fields.as_mut_ptr(), 67) },
+            0
+        );
+        black_box(fields)[2]
     }
 
     // From the copy, which has the file.
@@ -385,7 +414,7 @@ impl<'c> Work<'c> {
 
 type Thing = (&'static str, fn(&mut Work));
 
-const THINGS: [Thing; 21] = [
+const THINGS: [Thing; 24] = [
     ("survey", |w| w.survey()),
     ("holders", |w| w.holders()),
     ("survey-roomy", |w| w.survey_roomy()),
@@ -398,6 +427,18 @@ const THINGS: [Thing; 21] = [
     ("copy-and-delete", |w| {
         w.copy_saved();
         w.delete();
+    }),
+    ("forecast-250", |w| {
+        w.plan = [250; 64];
+        w.forecast();
+    }),
+    ("forecast-1000", |w| {
+        w.plan = [1_000; 64];
+        w.forecast();
+    }),
+    ("forecast-32768", |w| {
+        w.plan = [32_768; 64];
+        w.forecast();
     }),
     ("catalog", |w| w.catalog()),
     ("file-0", |w| w.file(0)),
@@ -532,6 +573,23 @@ fn saving(work: &mut Work) {
     row("the same deleted", delete, "survey", survey);
 }
 
+// What 64 saves will need, told on the disk with room. The goal: 70 surveys of that disk.
+fn forecasts(work: &mut Work) {
+    for (what, length) in PLANS {
+        work.plan = [length; 64];
+        println!("  {} of them go on", work.forecast());
+        let (forecast, survey) = least(
+            work,
+            20,
+            |w| {
+                w.forecast();
+            },
+            |w| (0..70).for_each(|_| w.survey_roomy()),
+        );
+        row(what, forecast, "70 surveys", survey);
+    }
+}
+
 // Archives beside a copy of as many bytes.
 fn archives(work: &mut Work) {
     let things: [Thing; 3] = [
@@ -592,12 +650,14 @@ pub fn run(config: &Config) {
         reading(work);
         holders(work);
         saving(work);
+        forecasts(work);
         archives(work);
     }
     println!("an almost empty disk: one file of {} sectors", SMALL.1);
     let work = &mut Work::new(config, SMALL);
     holders(work);
     saving(work);
+    forecasts(work);
     println!("nibbles, on the disk of {} sectors a file", FULL[0].1);
     nibbles(&mut Work::new(config, FULL[0]));
 }
