@@ -1,8 +1,8 @@
 use crate::types::locations;
 use crate::{
     denibblize, denibblize_13, lend, nibblize, raw, Archive, ArchiveEntry, CatalogEntry, File,
-    FileType, Forecast, Holders, Location, Name, Refusal, Sector, Survey, Track, TrackSectorPair, Vtoc,
-    LIST_PAIRS, PLAN_MOST, SECTORS_PER_TRACK, TRACKS,
+    FileType, Forecast, Holders, Location, Name, Refusal, Sector, Survey, Track, TrackSectorPair,
+    Vtoc, LIST_PAIRS, PLAN_MOST, SECTORS_PER_TRACK, TRACKS,
 };
 
 // The most that each call can need. A disk of 13 sectors a track has less of everything.
@@ -429,9 +429,8 @@ impl<'a> Disk<'a> {
         let d = self.bytes();
         let (l, k) = (lengths.as_ptr(), lengths.len());
         // SAFETY: as in `catalog`.
-        let f: [u64; 3 + PLAN_MOST] = lend::numbers(|p, n| unsafe {
-            raw::dos33_forecast(d.as_ptr(), d.len(), l, k, p, n)
-        })?;
+        let f: [u64; 3 + PLAN_MOST] =
+            lend::numbers(|p, n| unsafe { raw::dos33_forecast(d.as_ptr(), d.len(), l, k, p, n) })?;
         Ok(Forecast {
             data_sectors: f[0] as u16,
             list_sectors: f[1] as u16,

@@ -97,8 +97,8 @@ pub use nibbles::{
 pub use records::{binary_file, catalog_page, EntryRecord};
 pub use refusal::Refusal;
 pub use types::{
-    CatalogEntry, File, FileType, Forecast, Holders, Location, Name, RawName, Sector, Survey, Track,
-    TrackSectorPair, Vtoc,
+    CatalogEntry, File, FileType, Forecast, Holders, Location, Name, RawName, Sector, Survey,
+    Track, TrackSectorPair, Vtoc,
 };
 
 /// The tracks of a disk.

@@ -93,7 +93,7 @@ fn a_disk_that_fills_half_way() {
     only_free(&mut d, &free);
     // 3 of 7 sectors; 5; 3; 2; 1 is left.
     let lengths = [400, 1000, 300, 0, 0];
-    let due = (5, 2, 2, vec![false, true, false, true, true]);
+    let due = (4, 2, 2, vec![false, true, false, true, true]);
     assert_eq!(told(&d, &lengths), due);
     // A file of 122 data sectors, and one of 123, which needs a second list.
     let mut d = formatted();

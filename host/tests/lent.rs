@@ -252,7 +252,8 @@ fn words_of_refusals() {
     assert_eq!(hands(9, &word(20)), b"not clean");
     assert_eq!(hands(8, &word(21)), b"no space");
     assert_eq!(hands(10, &word(22)), b"name taken");
-    for number in (23..=255).chain([0, 19]) {
+    assert_eq!(hands(9, &word(25)), b"plan long");
+    for number in (26..=255).chain([0, 19, 23, 24]) {
         assert_eq!(hands(0, &word(number)), b"");
     }
 }
@@ -330,9 +331,7 @@ fn calls_on_a_flat_disk_of_13() {
         refuses_numbers(2, &|f, m| dos33_holders(tp, n, f, m));
         refuses_numbers(4, &|f, m| dos33_holders(rp, n, f, m));
         refuses(1, &|o, m, l| dos33_nibblize(p, n, o, m, l));
-        refuses_numbers(1, &|f, m| {
-            dos33_forecast(p, n, [1].as_ptr(), 1, f, m)
-        });
+        refuses_numbers(1, &|f, m| dos33_forecast(p, n, [1].as_ptr(), 1, f, m));
     }
 }
 

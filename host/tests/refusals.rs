@@ -80,9 +80,10 @@ fn words_and_numbers() {
         "not clean",
         "no space",
         "name taken",
+        "plan long",
     ];
-    // 19 is left for Req 01.
-    let numbers = (1..=18).chain(20..=22);
+    // 19 is left for Req 01, 23 and 24 for Req 10.
+    let numbers = (1..=18).chain(20..=22).chain([25]);
     for (k, (number, word)) in numbers.clone().zip(words).enumerate() {
         let r = Refusal::from_number(number).unwrap();
         assert_eq!(r, Refusal::ALL[k]);
