@@ -2,15 +2,16 @@
 use mathlib.Core.Path.{_≡_, refl, sym, ap, _∙_}
 use mathlib.Core.Bool.{Bool, true, false, cond}
 use mathlib.Core.List.{List, [], _∷_, _++_, append-assoc, append-nil}
-use Prim.Native.Nat.{ℕ, _+_, _*_, _-_, _<_, _≤_, _^_}
+use Prim.Native.Nat.{ℕ, _+_, _*_, _-_, _<_, _≤_, _^_, min}
 use native.Mathlib.Nat.{add-zero, zero-add, add-assoc}
 use native.Mathlib.Numerals.{add-one}
 use native.Mathlib.Omega.{arith}
 use lib.ListN.{length, getD, take, drop, set, length-append, drop-of-length-le}
 use lib.Seq.{drop-cons, drop-append-add, length-take-le}
-use borrow.Author.Tests.{not-true, not-false}
+use borrow.Author.Tests.{lt-leb, not-true, not-false}
 use borrow.Author.Needs.{needs}
 use Rattle.lists.specs.Fill.{put}
+use Rattle.lists.proofs.Split.{by-lt}
 use Rattle.lists.proofs.Put.{Put, length-put, put-none, put-one, put-is, put-front, put-3}
 use Rattle.outcome.specs.declared.Refusal.the-variants.{NoSpace}
 use Rattle.disk.specs.Disk.{start}
@@ -19,13 +20,15 @@ use Rattle.amend.specs.Save.{dataFor, listsFor}
 use Rattle.allot.proofs.Working.{table-is}
 use Rattle.forecast.specs.declared.Needs.{Needs}
 use Rattle.forecast.specs.Forecast.{Forecast, noSaves, goesOn, endsIn21, tried, ahead, numbersIn}
-use Rattle.forecast.specs.Steps.{Has, Tried, withSave, Room, Plan, Foreseen}
+use Rattle.forecast.specs.Steps.{Has, Barred, Tried, withSave, Room, Plan, Foreseen}
 use Rattle.forecast.proofs.Ahead.{ahead-refused, ahead-given}
+use Rattle.forecast.proofs.Longer.{tried-longer}
 
 -- ---- the sums
 module _ (s : Needs) (k : ℕ) (goes : Bool) where
-  pub add-not : goes ≡ false → s ≡ withSave s k goes
-  add-not z = rw z refl
+  pub add-not : (m : ℕ) → m ≡ min k (s .least) → goes ≡ false
+      → record { sectors = s .sectors; lists = s .lists; lines = s .lines; left = s .left; least = m } ≡ withSave s k goes
+  add-not m e z = rw (z, e) refl
 
   module _ (r : Room s k goes) (z : goes ≡ true) where
     pub add-some : 0 < s .left
@@ -39,10 +42,10 @@ module _ (s : Needs) (k : ℕ) (goes : Bool) where
         pub add-lists : s .lists + l < 2 ^ 64
         add-lists = let a = r .lists in let b = r .when z .1 in omega arith
 
-        pub add-is : record { sectors = s .sectors + m; lists = s .lists + l; lines = s .lines + 1; left = s .left - 1 } ≡ withSave s k goes
+        pub add-is : record { sectors = s .sectors + m; lists = s .lists + l; lines = s .lines + 1; left = s .left - 1; least = 32769 } ≡ withSave s k goes
         add-is =
             rw z
-            (λ i. record { sectors = s .sectors + e i; lists = s .lists + (f ∙ ap listsFor e) i; lines = s .lines + 1; left = s .left - 1 })
+            (λ i. record { sectors = s .sectors + e i; lists = s .lists + (f ∙ ap listsFor e) i; lines = s .lines + 1; left = s .left - 1; least = 32769 })
 
     pub add-lines : s .lines + 1 < 2 ^ 64
     add-lines = let a = r .lines in omega arith
@@ -67,7 +70,7 @@ joined s ms f =
       marks = ms ++ f .marks;
     }
 
-joined-first : (left : ℕ) (f : Forecast) → f ≡ joined (record { sectors = 0; lists = 0; lines = 0; left = left }) [] f
+joined-first : (left : ℕ) (f : Forecast) → f ≡ joined (record { sectors = 0; lists = 0; lines = 0; left = left; least = 32769 }) [] f
 joined-first left f =
     let a = sym (zero-add (f .dataSectors)) in
     let b = sym (zero-add (f .listSectors)) in
@@ -108,10 +111,16 @@ pub record Foreseeing (T₀ : List ℕ) (left : ℕ) (ks N₀ : List ℕ) (i : �
   pub marks : List ℕ
   pub many : length marks ≡ i
   pub puts : Put 3 marks N₀ N
+  pub barred : Barred T (s .left) (s .least)
   pub is : (d : List ℕ) → Has T₀ d → (e : List ℕ) × Has T e × (ahead 16 left d ks ≡ joined s marks (ahead 16 (s .left) e (drop i ks)))
 
+-- over 32,768 bytes
+barred-first : (T : List ℕ) (left : ℕ) → Barred T left 32769
+unfolding tried
+barred-first T left = record { most = omega arith; is = λ k h d t. rw (lt-leb k 32768 (omega arith)) refl }
+
 pub foresee-none : (T : List ℕ) (left : ℕ) (ks N : List ℕ) → Plan T ks N
-    → Foreseeing T left ks N 0 (record { sectors = 0; lists = 0; lines = 0; left = left }) T N
+    → Foreseeing T left ks N 0 (record { sectors = 0; lists = 0; lines = 0; left = left; least = 32769 }) T N
 foresee-none T left ks N p =
     record {
       count = omega arith;
@@ -125,6 +134,7 @@ foresee-none T left ks N p =
       marks = [];
       many = refl;
       puts = put-none 3 N;
+      barred = barred-first T left;
       is = λ d h. (d, h, joined-first left (ahead 16 left d ks));
     }
 
@@ -139,6 +149,9 @@ has-after T T′ d h l =
 module _ (T₀ : List ℕ) (left : ℕ) (ks N₀ : List ℕ) (i : ℕ) (s : Needs) (T N : List ℕ) (w : Foreseeing T₀ left ks N₀ i s T N) where
   pub foresee-table : length T ≡ 256
   foresee-table = w .long
+
+  pub foresee-barred : Barred T (s .left) (s .least)
+  foresee-barred = w .barred
 
   pub foresee-wide : i < length ks → 3 + i < length N
   foresee-wide h = let a = w .wide in let b = w .puts .long in omega arith
@@ -185,6 +198,19 @@ module _ (T₀ : List ℕ) (left : ℕ) (ks N₀ : List ℕ) (i : ℕ) (s : Need
               ∙ joined-ends s (w .marks) (ahead 16 (s .left) (u .0) (drop (i + 1) ks)),
         )
 
+    -- what is known to end in 21
+    bars : (c : Bool) → b ≡ c → Barred T′ (withSave s k c .left) (withSave s k c .least)
+    bars true z = barred-first T′ (s .left - 1)
+    bars false z =
+        let q = t .ends z in
+        let m = w .barred .most in
+        record {
+          most = omega arith;
+          is = λ j h d o.
+              let u : Has T d = record { size = o .size; table = sym (q .0) ∙ o .table } in
+              by-lt j (s .least) (λ l. tried-longer 16 (s .left) k j (omega arith) d (q .1 d u)) (λ l. w .barred .is j l d u);
+        }
+
     sums-small : (c : Bool) → b ≡ c → (withSave s k c .sectors ≤ 129 * (i + 1)) × (withSave s k c .lists ≤ 2 * (i + 1)) × (withSave s k c .lines ≤ i + 1)
     sums-small true z =
         let x = w .sectors in
@@ -218,6 +244,7 @@ module _ (T₀ : List ℕ) (left : ℕ) (ks N₀ : List ℕ) (i : ℕ) (s : Need
           marks = w .marks ++ (cond b 0 1 ∷ []);
           many = length-append (w .marks) (cond b 0 1 ∷ []) ∙ ap (λ (n : ℕ). n + 1) m;
           puts = rw e at o;
+          barred = bars b refl;
           is = next b refl h;
         })
 
@@ -252,4 +279,4 @@ module _ (T₀ : List ℕ) (left : ℕ) (ks N₀ : List ℕ) (i : ℕ) (s : Need
               ∙ ap (λ (l : List ℕ). l ++ drop (3 + length ks) N₀) (sym (ap numbersIn f ∙ joined-last s (w .marks)));
         }
 
-pub ruleset foresees = (foresee-none, foresee-table, foresee-wide, foresee-three, foresee-room, foresee-more, foresee-same, foresee-done, needs)
+pub ruleset foresees = (foresee-none, foresee-table, foresee-barred, foresee-wide, foresee-three, foresee-room, foresee-more, foresee-same, foresee-done, needs)

@@ -5,7 +5,7 @@ use mathlib.Core.List.{List}
 use Prim.Native.Nat.{ℕ, _+_, _*_, _<_, _≤_, _^_}
 use native.Mathlib.Omega.{arith}
 use lib.ListN.{length, replicate, length-replicate}
-use borrow.Author.Tests.{lt-leb, le-leb, lt-ltb, not-true, not-false}
+use borrow.Author.Tests.{le-leb, lt-ltb, not-true, not-false}
 use borrow.Author.Needs.{needs}
 use Rattle.lists.specs.Fill.{put, placed}
 use Rattle.lists.proofs.Split.{clash}
@@ -17,7 +17,7 @@ use Rattle.amend.specs.Save.{dataFor, listsFor}
 use Rattle.allot.specs.Table.{Allotted}
 use Rattle.allot.proofs.Allots.{table-long, places-fit, allotted-none, allotted-all}
 use Rattle.forecast.specs.Forecast.{tried}
-use Rattle.forecast.specs.Steps.{Sought, Tried}
+use Rattle.forecast.specs.Steps.{Sought, Barred, Tried}
 
 -- ---- sectors sought
 -- how many fits in a word
@@ -62,17 +62,9 @@ module _ (k s l : ℕ) (T T₁ T₂ P₂ : List ℕ) (b : Bool) (a : Allotted (l
 
 -- ---- a save
 module _ (left k : ℕ) (T : List ℕ) (long : length T ≡ 256) where
-  pub tried-long : 32768 < k → Tried left k T T false
+  sought-tried : (T′ : List ℕ) (r : Bool) → Sought k T T′ r → k ≤ 32768 → (left ≡ 0 → ⊥) → Tried left k T T′ r
   unfolding tried
-  tried-long h = record { long = long; ends = λ y. (refl, λ d t. rw (lt-leb k 32768 h) refl); goes = λ y. absurd (clash y) }
-
-  pub tried-full : k ≤ 32768 → left ≡ 0 → Tried left k T T false
-  unfolding tried
-  tried-full h z = record { long = long; ends = λ y. (refl, λ d t. rw (le-leb k 32768 h, z) refl); goes = λ y. absurd (clash y) }
-
-  pub tried-sought : (T′ : List ℕ) (r : Bool) → Sought k T T′ r → k ≤ 32768 → (left ≡ 0 → ⊥) → Tried left k T T′ r
-  unfolding tried
-  tried-sought T′ r s h z =
+  sought-tried T′ r s h z =
       let p : 0 < left = omega arith in
       record {
         long = s .long;
@@ -80,6 +72,20 @@ module _ (left k : ℕ) (T : List ℕ) (long : length T ≡ 256) where
         goes = λ y. (p, h, λ d t. rw (le-leb k 32768 h, lt-ltb 0 left p, s .all y d t .1) refl);
       }
 
+  module _ (least : ℕ) (b : Barred T left least) where
+    pub tried-long : least ≤ k → Tried left k T T false
+    tried-long h = record { long = long; ends = λ y. (refl, λ d t. b .is k h d t); goes = λ y. absurd (clash y) }
+
+    pub tried-short : k < least → k ≤ 32768
+    tried-short h = let m = b .most in omega arith
+
+    pub tried-full : k < least → left ≡ 0 → Tried left k T T false
+    unfolding tried
+    tried-full h z = record { long = long; ends = λ y. (refl, λ d t. rw (le-leb k 32768 (tried-short h), z) refl); goes = λ y. absurd (clash y) }
+
+    pub tried-sought : (T′ : List ℕ) (r : Bool) → Sought k T T′ r → k < least → (left ≡ 0 → ⊥) → Tried left k T T′ r
+    tried-sought T′ r s h z = sought-tried T′ r s (tried-short h) z
+
 pub ruleset soughts = (many-fit, sought-none, sought-all, not-true, not-false, needs)
 
-pub ruleset trials = (tried-long, tried-full, tried-sought, needs)
+pub ruleset trials = (tried-long, tried-short, tried-full, tried-sought, needs)

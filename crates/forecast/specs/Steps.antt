@@ -2,7 +2,7 @@
 use mathlib.Core.Path.{_≡_}
 use mathlib.Core.Bool.{Bool, true, false}
 use mathlib.Core.List.{List, map, _++_}
-use Prim.Native.Nat.{ℕ, _+_, _*_, _-_, _<_, _≤_}
+use Prim.Native.Nat.{ℕ, _+_, _*_, _-_, _<_, _≤_, min}
 use lib.ListN.{length, drop}
 use Rattle.lists.specs.Fill.{below, put}
 use Rattle.lists.specs.Select.{filter}
@@ -45,6 +45,11 @@ pub record Sought (k : ℕ) (T T′ : List ℕ) (r : Bool) : Type 0 where
   pub none : r ≡ false → (T′ ≡ T) × ((d : List ℕ) → Has T d → takeFor 16 k d ≡ refused NoSpace)
   pub all : r ≡ true → (d : List ℕ) → Has T d → (gs : List Part) × (takeFor 16 k d ≡ given (gs, put (start 16 vtoc) T′ d))
 
+-- saves of so many bytes or more end in 21 on every disk that has T, so many lines being left; those over 32,768 do always
+pub record Barred (T : List ℕ) (left least : ℕ) : Type 0 where
+  pub most : least ≤ 32769
+  pub is : (k : ℕ) → least ≤ k → (d : List ℕ) → Has T d → tried 16 left k d ≡ refused NoSpace
+
 -- a save of k bytes was tried in T, so many lines being left: on every disk that has T it ends in 21, or goes on and leaves T′
 pub record Tried (left k : ℕ) (T T′ : List ℕ) (r : Bool) : Type 0 where
   pub long : length T′ ≡ 256
@@ -52,11 +57,17 @@ pub record Tried (left k : ℕ) (T T′ : List ℕ) (r : Bool) : Type 0 where
   pub goes : r ≡ true → (0 < left) × (k ≤ 32768) × ((d : List ℕ) → Has T d → tried 16 left k d ≡ given (put (start 16 vtoc) T′ d))
 
 -- ---- the lengths, one after the other
--- what was needed so far and the lines left, with a save of k bytes more
+-- what was needed so far, the lines left and the least length that is known to end in 21, with a save of k bytes more
 abbrev pub withSave : Needs → (k : ℕ) (goes : Bool) → Needs
-withSave s k false = s
+withSave s k false = record { sectors = s .sectors; lists = s .lists; lines = s .lines; left = s .left; least = min k (s .least) }
 withSave s k true =
-    record { sectors = s .sectors + dataFor k; lists = s .lists + listsFor (dataFor k); lines = s .lines + 1; left = s .left - 1 }
+    record {
+      sectors = s .sectors + dataFor k;
+      lists = s .lists + listsFor (dataFor k);
+      lines = s .lines + 1;
+      left = s .left - 1;
+      least = 32769;
+    }
 
 -- there is room for it in the sums
 pub record Room (s : Needs) (k : ℕ) (goes : Bool) : Type 0 where

@@ -1,14 +1,14 @@
 // Will it go on? What saves of given lengths will need of a disk, told without writing: Req 11. Not of the Rust.
 ghost use mathlib.Core.Path.{_≡_};
 ghost use mathlib.Core.Bool.{cond};
-ghost use Prim.Native.Nat.{_≤_};
+ghost use Prim.Native.Nat.{_≤_, min};
 ghost use lib.ListN.{length};
 ghost use Rattle.lists.specs.Fill.{put};
 ghost use mathlib.Core.List.{_∷_, []};
 ghost use Rattle.outcome.specs.Outcome.{Hands};
 ghost use Rattle.saving.specs.Steps.{idle, Paged};
 ghost use Rattle.forecast.specs.Forecast.{forecastNumbers};
-ghost use Rattle.forecast.specs.Steps.{PageCounted, Counted, Sought, Tried, withSave, Room, Plan, Foreseen, Ready, AllTold};
+ghost use Rattle.forecast.specs.Steps.{PageCounted, Counted, Sought, Barred, Tried, withSave, Room, Plan, Foreseen, Ready, AllTold};
 use allot::take_sectors;
 use catalog::entry_start;
 use catalog::first_page;
@@ -29,12 +29,13 @@ use saving::lists_for;
 use saving::tidy_refusal;
 use saving::vtoc_copy;
 
-// What the saves before have needed, and how many lines are left.
+// What the saves before have needed, how many lines are left, and from which length on a save is known to end in 21.
 struct Needs {
     sectors: usize,
     lists: usize,
     lines: usize,
     left: usize,
+    least: u64,
 }
 
 // 1 for a line that is not in use, else 0.
@@ -95,12 +96,13 @@ fn seek_for(table: &mut [u8], k: usize) -> bool
     true
 }
 
-// Tries a save of k bytes in the table, so many lines being left: whether it goes on. One that would end in 21 leaves the table as it is.
-fn try_save(table: &mut [u8], left: usize, k: u64) -> bool
-    requires { ⌜ length (now table) ≡ 256 ⌝ }
+// Tries a save of k bytes in the table, so many lines being left: whether it goes on. One that would end in 21 leaves the table as it is. One that is no shorter
+// than one that did is not sought.
+fn try_save(table: &mut [u8], left: usize, least: u64, k: u64) -> bool
+    requires { ⌜ (length (now table) ≡ 256) × Barred (now table) left least ⌝ }
     ensures { λ r. ⌜ Tried left k (now (table .entry)) (now (table .exit)) r ⌝ }
 {
-    if 32768 < k {
+    if least <= k {
         return false;
     }
     if left == 0 {
@@ -109,13 +111,29 @@ fn try_save(table: &mut [u8], left: usize, k: u64) -> bool
     seek_for(table, k as usize)
 }
 
+// The lesser of two.
+fn lesser(a: u64, b: u64) -> u64
+    ensures { λ r. ⌜ r ≡ min a b ⌝ }
+{
+    if a <= b {
+        return a;
+    }
+    b
+}
+
 // With a save of k bytes more, if it goes on.
 fn add_save(s: Needs, k: u64, goes: bool) -> Needs
     requires { ⌜ Room s k goes ⌝ }
     ensures { λ r. ⌜ r ≡ withSave s k goes ⌝ }
 {
     if !goes {
-        return s;
+        return Needs {
+            sectors: s.sectors,
+            lists: s.lists,
+            lines: s.lines,
+            left: s.left,
+            least: lesser(k, s.least),
+        };
     }
     let m = data_for(k as usize);
     Needs {
@@ -123,6 +141,7 @@ fn add_save(s: Needs, k: u64, goes: bool) -> Needs
         lists: s.lists + lists_for(m),
         lines: s.lines + 1,
         left: s.left - 1,
+        least: 32769,
     }
 }
 
@@ -156,11 +175,12 @@ fn foresee(table: &mut [u8], left: usize, lengths: &[u64], numbers: &mut [u64])
         lists: 0,
         lines: 0,
         left: left,
+        least: 32769,
     };
     let mut i: usize = 0;
     while i < lengths.len() {
         let k = lengths[i];
-        let goes = try_save(table, s.left, k);
+        let goes = try_save(table, s.left, s.least, k);
         numbers[3 + i] = mark_of(goes);
         s = add_save(s, k, goes);
         i += 1;

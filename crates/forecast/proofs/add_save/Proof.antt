@@ -6,12 +6,13 @@ pub add-save-spec : {M : Type 1} → statement M
 add-save-spec =
     tie.close
     (tie.spec
+    (λ c κs. search adds)  -- lesser-requires
     (λ c. search adds)  -- returns
     (λ c κs. search adds)  -- data-for-requires
-    (λ c. search adds)  -- add-t6
+    (λ c. search adds)  -- add-t7
     (λ c κs. search adds)  -- lists-for-requires
-    (λ c. search adds)  -- add-t8
     (λ c. search adds)  -- add-t9
-    (λ c. search adds)  -- sub-t10
+    (λ c. search adds)  -- add-t10
+    (λ c. search adds)  -- sub-t11
     (λ c. search adds)  -- returns-2
     )
