@@ -10,6 +10,7 @@
 //     07 AA BB DD VV       put VV at place AABBDD of the stream
 //     08 AA BB DD          the stream has AABBDD bytes
 //     15 KK AA BB          as step 01 at every sector of the disk, VV being AA k + BB for sector k
+//     23 TT UU AA BB       map bytes 0 and 1 of the tracks TT to UU of the disk of 16 sectors a track are AA, BB
 // The 5-and-3 coding is written here alone: byte by byte, as DOS 3.2 does it. All is proved to end and never to trap, and no more than that.
 ghost use Prim.Native.Nat.{_<_, _≤_};
 use disk::Place;
@@ -22,6 +23,7 @@ use lists::fill_at;
 use lists::part;
 use trial::number;
 use trial::place;
+use trial::place_16;
 use trial::poke;
 use trial::put_ramp;
 
@@ -88,7 +90,27 @@ fn fill_ramps(disks: &mut [u8], edition: u8, a: u8, b: u8) {
     }
 }
 
-// The steps that change a disk: 00, 01, 02, 15.
+// Puts map bytes 0 and 1 of a track of the disk of 16 sectors a track.
+pub fn put_map(disks: &mut [u8], track: u8, high: u8, low: u8) {
+    let at = place_16(17, 0, 56) + 4 * (track as usize);
+    poke(disks, at, high);
+    poke(disks, at + 1, low);
+}
+
+// The same, where the track is one of the step's.
+fn put_asked(disks: &mut [u8], track: u8, step: [u8; 6]) {
+    if (step[1] <= track) & (track <= step[2]) {
+        put_map(disks, track, step[3], step[4]);
+    }
+}
+
+fn put_maps(disks: &mut [u8], step: [u8; 6]) {
+    for t in 0..35u8 {
+        put_asked(disks, t, step);
+    }
+}
+
+// The steps that change a disk: 00, 01, 02, 15, 23.
 pub fn change(disks: &mut [u8], step: [u8; 6]) {
     let command = step[0];
     let edition = step[1];
@@ -97,6 +119,7 @@ pub fn change(disks: &mut [u8], step: [u8; 6]) {
         0 => poke(disks, at + number(0, step[4]), step[5]),
         1 => put_ramp(disks, at, step[4]),
         2 => fill_at(disks, start_of(edition), size_of(edition), 0),
+        0x23 => put_maps(disks, step),
         _ => fill_ramps(disks, edition, step[2], step[3]),
     }
 }

@@ -1,10 +1,9 @@
 // Saves and deletes on trial disks: document 02, Req 09. Standard input is a script, a line of six bytes in hexadecimal for each step. The head of laying has the steps
-// that lay the disks, 00 to 02 and 15. There are a name of 63 bytes at most and 40,000 bytes of data at hand. KK is an edition, 0D or 10, or 0F: the disk of 16 sectors
-// a track without its last byte. AABB and NNNN are numbers, the high byte first; what is not named is 00:
+// that lay the disks, 00 to 02, 15 and 23. There are a name of 63 bytes at most and 40,000 bytes of data at hand. KK is an edition, 0D or 10, or 0F: the disk of 16
+// sectors a track without its last byte. AABB and NNNN are numbers, the high byte first; what is not named is 00:
 //     20 NN VV             the name has NN bytes, each of them VV
 //     21 II AA BB CC DD    put AA, BB, CC, DD at bytes II, II + 1, II + 2, II + 3 of the name
 //     22 VV AA BB          the data are VV, VV + AA, VV + 2 AA and so on, at each 256th byte BB more
-//     23 TT UU AA BB       map bytes 0 and 1 of the tracks TT to UU of the disk of 16 sectors a track are AA, BB
 //     24 KK AA BB NN NN    save the first NNNN bytes of the data under the name, AABB being their load address
 //     25 KK 00 00 NN NN    delete the name; the file that is left under it, if any, is held to the first NNNN bytes of the data
 //     26 LL DD AA BB       for each track: on a copy of the disk whose last track is LL, whose direction is DD and where map bytes 0 and 1 of the track are AA, BB, save a
@@ -64,26 +63,6 @@ fn fill_data(data: &mut [u8], first: u8, a: u8, b: u8) {
     for k in 0..40000u16 {
         poke(data, k as usize, v);
         v = next_byte(v, a, b, k);
-    }
-}
-
-// Puts the two bytes of a track's map.
-fn put_map(disk: &mut [u8], track: u8, high: u8, low: u8) {
-    let at = place_16(17, 0, 56) + 4 * (track as usize);
-    poke(disk, at, high);
-    poke(disk, at + 1, low);
-}
-
-// The same, where the track is one of the step's.
-fn put_asked(disk: &mut [u8], track: u8, step: [u8; 6]) {
-    if (step[1] <= track) & (track <= step[2]) {
-        put_map(disk, track, step[3], step[4]);
-    }
-}
-
-fn put_maps(disk: &mut [u8], step: [u8; 6]) {
-    for t in 0..35u8 {
-        put_asked(disk, t, step);
     }
 }
 
@@ -256,7 +235,7 @@ fn try_track(disk: &[u8], name: &[u8], step: [u8; 6], track: u8) {
     copy_at(part(disk, 0, 143360), &mut copy, 0);
     poke(&mut copy, place_16(17, 0, 48), step[1]);
     poke(&mut copy, place_16(17, 0, 49), step[2]);
-    put_map(&mut copy, track, step[3], step[4]);
+    laying::put_map(&mut copy, track, step[3], step[4]);
     match saving::save(&mut copy, name, 0, b"") {
         0 => show_found(&copy, track),
         21 => print(b"."),
@@ -300,11 +279,10 @@ fn show(disks: &mut [u8], name: &[u8], data: &[u8], step: [u8; 6]) {
 
 fn act(disks: &mut [u8], name: &mut [u8], data: &mut [u8], step: [u8; 6]) {
     match step[0] {
-        0..=2 | 0x15 => laying::change(disks, step),
+        0..=2 | 0x15 | 0x23 => laying::change(disks, step),
         0x20 => set_name(name, step[1], step[2]),
         0x21 => put_name(name, step),
         0x22 => fill_data(data, step[1], step[2], step[3]),
-        0x23 => put_maps(disks, step),
         _ => show(disks, name, data, step),
     }
 }

@@ -2,14 +2,14 @@ use Prim.Native.Nat.{_-_, _≤_}
 use lib.ListN.{length}
 use mathlib.Core.Path.{_≡_}
 use borrow.Author.Needs.{needs}
-use Rattle.saving_main.proofs.put_maps.Statement.{statement}
-use Rattle.saving_main.proofs.put_maps.Tie as tie
+use Rattle.laying.proofs.put_maps.Statement.{statement}
+use Rattle.laying.proofs.put_maps.Tie as tie
 
 abbrev Inv-loop : tie.InvT-loop
-Inv-loop disk₀ step t₀ disk t = (t ≤ 35) × (length disk ≡ length disk₀)
+Inv-loop disks₀ step t₀ disks t = (t ≤ 35) × (length disks ≡ length disks₀)
 
 abbrev μ-loop : tie.MeasureT-loop
-μ-loop disk₀ step t₀ disk t = 35 - t
+μ-loop disks₀ step t₀ disks t = 35 - t
 
 pub put-maps-spec : {M : Type 1} → statement M
 put-maps-spec =
