@@ -8,7 +8,7 @@ use Rattle.outcome.specs.Outcome.{given, number, answerOf, acceptedWith}
 use Rattle.outcome.proofs.Outcome.{gives, handed-fits, hands-given}
 use Rattle.amend.specs.Amending.{run}
 use Rattle.forecast.specs.Forecast.{Forecast, forecast, numbersIn, forecastNumbers}
-use Rattle.forecast.specs.Claims.{Planned, saveOf, lengthsOf, answersTo, markOf, used, Saves, Foretelling}
+use Rattle.forecast.specs.Claims.{Planned, saveOf, lengthsOf, answersTo, markFor, used, Saves, Foretelling}
 use Rattle.forecast.specs.Claims as Says
 use Rattle.forecast.proofs.Forecasting.{forecasting}
 use Rattle.forecast.proofs.Calls.{numbers}
@@ -45,7 +45,7 @@ foretelling =
           let r = answers-are d e ss rs s in (
             g .0,
             w .3 ∙ ap (λ (x : List ℕ). x ++ drop (length x) before) (sym (g .2)),
-            t .marks ∙ ap (map markOf) (sym (r .0)),
+            t .marks ∙ ap (map markFor) (sym (r .0)),
             λ x q. ap (used 16) (r .1) ∙ t .needs x q,
           );
     }

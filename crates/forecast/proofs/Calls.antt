@@ -19,7 +19,7 @@ use Rattle.saving.specs.Steps.{idle, Paged, Copied}
 use Rattle.saving.proofs.Freeing.{vtoc-long, copy-is}
 use Rattle.saving.proofs.Calls.{tidy-long, tidy-paged}
 use Rattle.forecast.specs.Forecast.{ahead, openLines, forecast, numbersIn, forecastNumbers}
-use Rattle.forecast.specs.Steps.{Counted, Has, Plan, Foreseen, Ready, AllTold}
+use Rattle.forecast.specs.Steps.{Counted, HasTable, Plan, Foreseen, Prepared, AllTold}
 use Rattle.forecast.proofs.Ahead.{marks-many}
 
 -- ---- on a clean disk
@@ -44,7 +44,7 @@ module _ (d ks : List ℕ) (clean : number (tidy 16 d) ≡ 0) (few : length ks �
       let c : Counted d left = record { is = λ ps q. ap (λ (l : List Place). length (filter (idle d) (starts 16 l))) (given-same (paged .is) q) } in
       (numbersIn (ahead 16 left d ks), told left c, length-told left)
 
-module _ (d ks N : List ℕ) (y : Ready d ks N) where
+module _ (d ks N : List ℕ) (y : Prepared d ks N) where
   size : length d ≡ 143360
   size = tidy-long d 0 (sym (y .clean)) refl
 
@@ -60,7 +60,7 @@ module _ (d ks N : List ℕ) (y : Ready d ks N) where
         record {
           is = λ ns q.
               let e : numbersIn (ahead 16 left d ks) ≡ ns = given-same (told d ks (y .clean) (y .few) left m) q in
-              let o : Has T d = record { size = size; table = copy-is d T c size } in
+              let o : HasTable T d = record { size = size; table = copy-is d T c size } in
               f .is d o ∙ (λ i. e i ++ drop ((sym (length-told d ks (y .clean) (y .few) left) ∙ ap length e) i) N);
         }
 
@@ -89,7 +89,7 @@ module _ (d ks N : List ℕ) where
       clean : number (tidy 16 d) ≡ 0
       clean = sym e ∙ z
 
-      pub forecast-ready : 3 + length ks ≤ length N → Ready d ks N
+      pub forecast-ready : 3 + length ks ≤ length N → Prepared d ks N
       forecast-ready h = record { clean = clean; few = few; wide = h }
 
       pub forecast-short : (r : Handed) → r ≡ refusedWith 12 → length N < 3 + length ks → Hands (forecastNumbers d ks) N N r

@@ -20,7 +20,7 @@ use Rattle.amend.specs.Save.{dataFor, listsFor}
 use Rattle.allot.proofs.Working.{table-is}
 use Rattle.forecast.specs.declared.Needs.{Needs}
 use Rattle.forecast.specs.Forecast.{Forecast, noSaves, goesOn, endsIn21, tried, ahead, numbersIn}
-use Rattle.forecast.specs.Steps.{Has, Barred, Tried, withSave, Room, Plan, Foreseen}
+use Rattle.forecast.specs.Steps.{HasTable, Barred, Tried, withSave, Room, Plan, Foreseen}
 use Rattle.forecast.proofs.Ahead.{ahead-refused, ahead-given}
 use Rattle.forecast.proofs.Longer.{tried-longer}
 
@@ -112,7 +112,7 @@ pub record Foreseeing (T₀ : List ℕ) (left : ℕ) (ks N₀ : List ℕ) (i : �
   pub many : length marks ≡ i
   pub puts : Put 3 marks N₀ N
   pub barred : Barred T (s .left) (s .least)
-  pub is : (d : List ℕ) → Has T₀ d → (e : List ℕ) × Has T e × (ahead 16 left d ks ≡ joined s marks (ahead 16 (s .left) e (drop i ks)))
+  pub is : (d : List ℕ) → HasTable T₀ d → (e : List ℕ) × HasTable T e × (ahead 16 left d ks ≡ joined s marks (ahead 16 (s .left) e (drop i ks)))
 
 -- over 32,768 bytes
 barred-first : (T : List ℕ) (left : ℕ) → Barred T left 32769
@@ -139,7 +139,7 @@ foresee-none T left ks N p =
     }
 
 -- the disk with the table after
-has-after : (T T′ d : List ℕ) → Has T d → length T′ ≡ 256 → Has T′ (put (start 16 vtoc) T′ d)
+has-after : (T T′ d : List ℕ) → HasTable T d → length T′ ≡ 256 → HasTable T′ (put (start 16 vtoc) T′ d)
 has-after T T′ d h l =
     record {
       size = length-put (start 16 vtoc) T′ d (let z = h .size in omega arith) ∙ h .size;
@@ -176,8 +176,8 @@ module _ (T₀ : List ℕ) (left : ℕ) (ks N₀ : List ℕ) (i : ℕ) (s : Need
         }
 
     -- the next length on a disk
-    next : (c : Bool) → b ≡ c → i < length ks → (d : List ℕ) → Has T₀ d
-        → (e : List ℕ) × Has T′ e × (ahead 16 left d ks ≡ joined (withSave s k c) (w .marks ++ (cond c 0 1 ∷ [])) (ahead 16 (withSave s k c .left) e (drop (i + 1) ks)))
+    next : (c : Bool) → b ≡ c → i < length ks → (d : List ℕ) → HasTable T₀ d
+        → (e : List ℕ) × HasTable T′ e × (ahead 16 left d ks ≡ joined (withSave s k c) (w .marks ++ (cond c 0 1 ∷ [])) (ahead 16 (withSave s k c .left) e (drop (i + 1) ks)))
     next true z h d o =
         let u = w .is d o in
         let e : List ℕ = put (start 16 vtoc) T′ (u .0) in
@@ -207,7 +207,7 @@ module _ (T₀ : List ℕ) (left : ℕ) (ks N₀ : List ℕ) (i : ℕ) (s : Need
         record {
           most = omega arith;
           is = λ j h d o.
-              let u : Has T d = record { size = o .size; table = sym (q .0) ∙ o .table } in
+              let u : HasTable T d = record { size = o .size; table = sym (q .0) ∙ o .table } in
               by-lt j (s .least) (λ l. tried-longer 16 (s .left) k j (omega arith) d (q .1 d u)) (λ l. w .barred .is j l d u);
         }
 

@@ -17,7 +17,7 @@ use Rattle.amend.specs.Save.{dataFor, listsFor}
 use Rattle.allot.specs.Table.{Allotted}
 use Rattle.allot.proofs.Allots.{table-long, places-fit, allotted-none, allotted-all}
 use Rattle.forecast.specs.Forecast.{tried}
-use Rattle.forecast.specs.Steps.{Sought, Barred, Tried}
+use Rattle.forecast.specs.Steps.{SoughtFor, Barred, Tried}
 
 -- ---- sectors sought
 -- how many fits in a word
@@ -41,7 +41,7 @@ module _ (k s l : ℕ) (T T₁ T₂ P₂ : List ℕ) (b : Bool) (a : Allotted (l
   fit : 2 * (l + s) ≤ 262
   fit = rw many (places-fit k short)
 
-  pub sought-none : b ≡ false → Sought k T T false
+  pub sought-none : b ≡ false → SoughtFor k T T false
   sought-none z =
       record {
         long = long;
@@ -49,7 +49,7 @@ module _ (k s l : ℕ) (T T₁ T₂ P₂ : List ℕ) (b : Bool) (a : Allotted (l
         all = λ y. absurd (clash y);
       }
 
-  pub sought-all : (T₃ : List ℕ) → T₃ ≡ placed 0 T₂ T → b ≡ true → Sought k T T₃ true
+  pub sought-all : (T₃ : List ℕ) → T₃ ≡ placed 0 T₂ T → b ≡ true → SoughtFor k T T₃ true
   sought-all T₃ g z =
       let q : T₃ ≡ T₂ = put-whole (placed-put g (let n = copy-long in omega arith)) (copy-long ∙ sym long) in
       record {
@@ -62,7 +62,7 @@ module _ (k s l : ℕ) (T T₁ T₂ P₂ : List ℕ) (b : Bool) (a : Allotted (l
 
 -- ---- a save
 module _ (left k : ℕ) (T : List ℕ) (long : length T ≡ 256) where
-  sought-tried : (T′ : List ℕ) (r : Bool) → Sought k T T′ r → k ≤ 32768 → (left ≡ 0 → ⊥) → Tried left k T T′ r
+  sought-tried : (T′ : List ℕ) (r : Bool) → SoughtFor k T T′ r → k ≤ 32768 → (left ≡ 0 → ⊥) → Tried left k T T′ r
   unfolding tried
   sought-tried T′ r s h z =
       let p : 0 < left = omega arith in
@@ -83,7 +83,7 @@ module _ (left k : ℕ) (T : List ℕ) (long : length T ≡ 256) where
     unfolding tried
     tried-full h z = record { long = long; ends = λ y. (refl, λ d t. rw (le-leb k 32768 (tried-short h), z) refl); goes = λ y. absurd (clash y) }
 
-    pub tried-sought : (T′ : List ℕ) (r : Bool) → Sought k T T′ r → k < least → (left ≡ 0 → ⊥) → Tried left k T T′ r
+    pub tried-sought : (T′ : List ℕ) (r : Bool) → SoughtFor k T T′ r → k < least → (left ≡ 0 → ⊥) → Tried left k T T′ r
     tried-sought T′ r s h z = sought-tried T′ r s (tried-short h) z
 
 pub ruleset soughts = (many-fit, sought-none, sought-all, not-true, not-false, needs)

@@ -61,8 +61,8 @@ answersTo n d [] = []
 answersTo n d (op ∷ ops) = number (amend n d op) ∷ answersTo n (kept d (amend n d op)) ops
 
 -- 1 for 21, else 0
-abbrev pub markOf : ℕ → ℕ
-markOf a = cond (eqb a 21) 1 0
+abbrev pub markFor : ℕ → ℕ
+markFor a = cond (eqb a 21) 1 0
 
 -- what the files of a disk take: data sectors, lists, entry lines
 pub record Used : Type 0 where
@@ -101,7 +101,7 @@ plus u f =
 pub record Foretold (n : ℕ) (d : List ℕ) (ss : List Planned) (f : Forecast) : Type 0 where
   -- a save is accepted, or it ends in 21; it is marked just where it ends in 21
   pub only : Every (λ (a : ℕ). (a ≡ 0) ⊎ (a ≡ 21)) (answersTo n d (map saveOf ss))
-  pub marks : f .marks ≡ map markOf (answersTo n d (map saveOf ss))
+  pub marks : f .marks ≡ map markFor (answersTo n d (map saveOf ss))
   -- the disk after them has just so many more data sectors, lists and lines in use
   pub needs : (u : Used) → used n d ≡ given u → used n (run n d (map saveOf ss)) ≡ given (plus u f)
 
@@ -137,5 +137,5 @@ pub record Foretelling : Type 0 where
   pub equals : (d : List ℕ) → Clean 16 d → (ls : List (Option File)) → lines 16 d ≡ given ls → (ss : List Planned) → Allowed ls ss
       → (before after : List ℕ) (h : Handed) → Hands (forecastNumbers d (lengthsOf ss)) before after h → h .refusal ≡ 0
       → (e rs : List ℕ) → Saves d ss rs e
-      → (f : Forecast) × (after ≡ numbersIn f ++ drop (length (numbersIn f)) before) × (f .marks ≡ map markOf rs)
+      → (f : Forecast) × (after ≡ numbersIn f ++ drop (length (numbersIn f)) before) × (f .marks ≡ map markFor rs)
       × ((u : Used) → used 16 d ≡ given u → used 16 e ≡ given (plus u f))

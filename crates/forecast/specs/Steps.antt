@@ -35,26 +35,26 @@ module _ (d : List ℕ) where
 
 -- ---- a save tried
 -- the disk d has the VTOC T
-pub record Has (T d : List ℕ) : Type 0 where
+pub record HasTable (T d : List ℕ) : Type 0 where
   pub size : length d ≡ 143360
   pub table : T ≡ bytesOf 16 d vtoc
 
 -- the sectors of k bytes were sought in T, which is T′ after: on every disk that has T none is left, or they are taken as in T′
-pub record Sought (k : ℕ) (T T′ : List ℕ) (r : Bool) : Type 0 where
+pub record SoughtFor (k : ℕ) (T T′ : List ℕ) (r : Bool) : Type 0 where
   pub long : length T′ ≡ 256
-  pub none : r ≡ false → (T′ ≡ T) × ((d : List ℕ) → Has T d → takeFor 16 k d ≡ refused NoSpace)
-  pub all : r ≡ true → (d : List ℕ) → Has T d → (gs : List Part) × (takeFor 16 k d ≡ given (gs, put (start 16 vtoc) T′ d))
+  pub none : r ≡ false → (T′ ≡ T) × ((d : List ℕ) → HasTable T d → takeFor 16 k d ≡ refused NoSpace)
+  pub all : r ≡ true → (d : List ℕ) → HasTable T d → (gs : List Part) × (takeFor 16 k d ≡ given (gs, put (start 16 vtoc) T′ d))
 
 -- saves of so many bytes or more end in 21 on every disk that has T, so many lines being left; those over 32,768 do always
 pub record Barred (T : List ℕ) (left least : ℕ) : Type 0 where
   pub most : least ≤ 32769
-  pub is : (k : ℕ) → least ≤ k → (d : List ℕ) → Has T d → tried 16 left k d ≡ refused NoSpace
+  pub is : (k : ℕ) → least ≤ k → (d : List ℕ) → HasTable T d → tried 16 left k d ≡ refused NoSpace
 
 -- a save of k bytes was tried in T, so many lines being left: on every disk that has T it ends in 21, or goes on and leaves T′
 pub record Tried (left k : ℕ) (T T′ : List ℕ) (r : Bool) : Type 0 where
   pub long : length T′ ≡ 256
-  pub ends : r ≡ false → (T′ ≡ T) × ((d : List ℕ) → Has T d → tried 16 left k d ≡ refused NoSpace)
-  pub goes : r ≡ true → (0 < left) × (k ≤ 32768) × ((d : List ℕ) → Has T d → tried 16 left k d ≡ given (put (start 16 vtoc) T′ d))
+  pub ends : r ≡ false → (T′ ≡ T) × ((d : List ℕ) → HasTable T d → tried 16 left k d ≡ refused NoSpace)
+  pub goes : r ≡ true → (0 < left) × (k ≤ 32768) × ((d : List ℕ) → HasTable T d → tried 16 left k d ≡ given (put (start 16 vtoc) T′ d))
 
 -- ---- the lengths, one after the other
 -- what was needed so far, the lines left and the least length that is known to end in 21, with a save of k bytes more
@@ -84,11 +84,11 @@ pub record Plan (T ks N : List ℕ) : Type 0 where
 
 -- its numbers were put to the front of the elements
 pub record Foreseen (T : List ℕ) (left : ℕ) (ks before after : List ℕ) : Type 0 where
-  pub is : (d : List ℕ) → Has T d → after ≡ numbersIn (ahead 16 left d ks) ++ drop (3 + length ks) before
+  pub is : (d : List ℕ) → HasTable T d → after ≡ numbersIn (ahead 16 left d ks) ++ drop (3 + length ks) before
 
 -- ---- the end of the call
 -- a clean disk, a plan, and enough elements
-pub record Ready (d ks N : List ℕ) : Type 0 where
+pub record Prepared (d ks N : List ℕ) : Type 0 where
   pub clean : number (tidy 16 d) ≡ 0
   pub few : length ks ≤ 64
   pub wide : 3 + length ks ≤ length N

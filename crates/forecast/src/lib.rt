@@ -8,7 +8,7 @@ ghost use mathlib.Core.List.{_∷_, []};
 ghost use Rattle.outcome.specs.Outcome.{Hands};
 ghost use Rattle.saving.specs.Steps.{idle, Paged};
 ghost use Rattle.forecast.specs.Forecast.{forecastNumbers};
-ghost use Rattle.forecast.specs.Steps.{PageCounted, Counted, Sought, Barred, Tried, withSave, Room, Plan, Foreseen, Ready, AllTold};
+ghost use Rattle.forecast.specs.Steps.{PageCounted, Counted, SoughtFor, Barred, Tried, withSave, Room, Plan, Foreseen, Prepared, AllTold};
 use allot::take_sectors;
 use catalog::entry_start;
 use catalog::first_page;
@@ -83,7 +83,7 @@ fn open_lines(disk: &[u8]) -> usize
 // Takes the sectors of k bytes in the table; where they are not all found it stays as it is.
 fn seek_for(table: &mut [u8], k: usize) -> bool
     requires { ⌜ (length (now table) ≡ 256) × (k ≤ 32768) ⌝ }
-    ensures { λ r. ⌜ Sought k (now (table .entry)) (now (table .exit)) r ⌝ }
+    ensures { λ r. ⌜ SoughtFor k (now (table .entry)) (now (table .exit)) r ⌝ }
 {
     let m = data_for(k);
     let mut copy = [0u8; 256];
@@ -190,7 +190,7 @@ fn foresee(table: &mut [u8], left: usize, lengths: &[u64], numbers: &mut [u64])
 
 // Puts the numbers of a forecast to the front of the elements, the disk being clean.
 fn tell(disk: &[u8], lengths: &[u64], numbers: &mut [u64])
-    requires { ⌜ Ready (now disk) (now lengths) (now numbers) ⌝ }
+    requires { ⌜ Prepared (now disk) (now lengths) (now numbers) ⌝ }
     ensures { λ _. ⌜ AllTold (now (disk .entry)) (now (lengths .entry)) (now (numbers .entry)) (now (numbers .exit)) ⌝ }
 {
     let left = open_lines(disk);
