@@ -23,15 +23,17 @@ pub const SAVE: u8 = 6;
 
 pub const DELETE: u8 = 7;
 
-pub const ARCHIVE: u8 = 8;
+pub const FORECAST: u8 = 8;
 
-pub const CHECK: u8 = 9;
+pub const ARCHIVE: u8 = 9;
 
-pub const SHOW: u8 = 10;
+pub const CHECK: u8 = 10;
 
-pub const NIBBLIZE: u8 = 11;
+pub const SHOW: u8 = 11;
 
-pub const DENIBBLIZE: u8 = 12;
+pub const NIBBLIZE: u8 = 12;
+
+pub const DENIBBLIZE: u8 = 13;
 
 // The options.
 pub const FORCE: u8 = 1;
@@ -52,8 +54,10 @@ pub const EMPTY: u8 = 8;
 
 pub const OUT: u8 = 9;
 
+pub const FILES: u8 = 10;
+
 // `--`: what stands behind it is a word.
-const END: u8 = 10;
+const END: u8 = 11;
 
 // A word in a cell of a table: zeros behind it. A word that is longer than a cell is none of the table's, and its cell is empty.
 fn cell_of(w: &[u8]) -> [u8; 10] {
@@ -64,7 +68,7 @@ fn cell_of(w: &[u8]) -> [u8; 10] {
 
 // The number of the cell in a table, from 1 on; 0 where it has none.
 fn number_in(table: &[u8], cell: &[u8]) -> u8 {
-    for k in 0..12u8 {
+    for k in 0..13u8 {
         if lists::same(lists::part(table, 10 * (k as usize), 10), cell) {
             return k + 1;
         }
@@ -83,6 +87,7 @@ pub fn command_of(w: &[u8]) -> u8 {
           get\0\0\0\0\0\0\0\
           save\0\0\0\0\0\0\
           delete\0\0\0\0\
+          forecast\0\0\
           archive\0\0\0\
           check\0\0\0\0\0\
           show\0\0\0\0\0\0\
@@ -107,20 +112,23 @@ fn option_of(i: usize) -> u8 {
           --all\0\0\0\0\0\
           --empty\0\0\0\
           --out\0\0\0\0\0\
+          --files\0\0\0\
           --\0\0\0\0\0\0\0\0",
         &cell,
     )
 }
 
-// The place of `--` among the arguments from `first` on; past all that are looked at where there is none.
+// The place of `--` among the arguments from `first` on; past the end where there is none.
 fn end_of_options(first: usize) -> usize {
-    for i in 0..16usize {
-        let at = after(first, i);
+    let all = os::arg_count();
+    let mut at = first;
+    while at < all {
         if option_of(at) == END {
             return at;
         }
+        at += 1;
     }
-    after(first, 16)
+    all
 }
 
 // What stands behind --out is its value, and neither a word nor an option.
@@ -147,18 +155,20 @@ fn option_before(end: usize, i: usize) -> u8 {
 
 // The place among the arguments of word k from `first` on, the options left out; past the end where there is none.
 fn word_place(first: usize, k: usize) -> usize {
+    let all = os::arg_count();
     let end = end_of_options(first);
     let mut left = k;
-    for i in 0..16usize {
-        let at = after(first, i);
+    let mut at = first;
+    while at < all {
         if option_before(end, at) == 0 {
             if left == 0 {
                 return at;
             }
             left -= 1;
         }
+        at += 1;
     }
-    after(first, 16)
+    all
 }
 
 // Word k from the command on, which is word 0, into buf: its length. The options are left out.
@@ -168,23 +178,28 @@ pub fn word(first: usize, k: usize, buf: &mut [u8]) -> usize {
 }
 
 pub fn has_option(first: usize, option: u8) -> bool {
+    let all = os::arg_count();
     let end = end_of_options(first);
-    for i in 0..16usize {
-        if option_before(end, after(first, i)) == option {
+    let mut at = first;
+    while at < all {
+        if option_before(end, at) == option {
             return true;
         }
+        at += 1;
     }
     false
 }
 
 // The value of --out into buf: its length.
 pub fn out_value(first: usize, buf: &mut [u8]) -> usize {
+    let all = os::arg_count();
     let end = end_of_options(first);
-    for i in 0..16usize {
-        let at = after(first, i);
+    let mut at = first;
+    while at < all {
         if option_before(end, at) == VALUE {
             return os::arg(at, buf);
         }
+        at += 1;
     }
     0
 }
@@ -247,24 +262,68 @@ fn wants(command: u8, first: usize) -> usize {
             3
         }
         SAVE => 4,
+        FORECAST => {
+            if has_option(first, FILES) {
+                return 2;
+            }
+            1
+        }
         _ => 2,
     }
 }
 
-// How many words stand behind the command.
-fn words(first: usize) -> usize {
+// How many words there are, the command among them.
+fn all_words(first: usize) -> usize {
+    let all = os::arg_count();
+    let end = end_of_options(first);
     let mut n: usize = 0;
-    for k in 1..16usize {
-        if word_place(first, k) < os::arg_count() {
-            n = k;
+    let mut at = first;
+    while at < all {
+        if option_before(end, at) == 0 {
+            n = after(n, 1);
         }
+        at += 1;
     }
     n
 }
 
-// The number of words behind a command is what it wants.
+// How many words stand behind word k.
+pub fn words_behind(first: usize, k: usize) -> usize {
+    let n = all_words(first);
+    if n <= k {
+        return 0;
+    }
+    n - k - 1
+}
+
+// The number of words behind a command is what it wants; behind `forecast` there may be more.
 pub fn has_words(command: u8, first: usize) -> bool {
-    (words(first) == wants(command, first)) & !lacks_value(first)
+    let n = words_behind(first, 0);
+    let wanted = wants(command, first);
+    let more = (command == FORECAST) & (wanted < n);
+    ((n == wanted) | more) & !lacks_value(first)
+}
+
+// Argument i is `-`.
+fn is_dash_at(i: usize) -> bool {
+    let mut w = [0u8; 1];
+    let n = os::arg(i, &mut w);
+    is_dash(lists::part(&w, 0, n))
+}
+
+// How many words are `-`.
+pub fn dashes(first: usize) -> usize {
+    let all = os::arg_count();
+    let end = end_of_options(first);
+    let mut n: usize = 0;
+    let mut at = first;
+    while at < all {
+        if (option_before(end, at) == 0) & is_dash_at(at) {
+            n = after(n, 1);
+        }
+        at += 1;
+    }
+    n
 }
 
 // The argument is longer than any that is taken.
@@ -275,10 +334,13 @@ fn is_long(i: usize) -> bool {
 }
 
 pub fn has_long(first: usize) -> bool {
-    for i in 0..16usize {
-        if is_long(after(first, i)) {
+    let all = os::arg_count();
+    let mut at = first;
+    while at < all {
+        if is_long(at) {
             return true;
         }
+        at += 1;
     }
     false
 }
@@ -290,16 +352,18 @@ fn is_odd(i: usize) -> bool {
     (1 < n) & ((lists::byte_at(&w, 0) == b'-') & (option_of(i) == 0))
 }
 
-// The place of the first argument that begins as an option does and is none; past all that are looked at where there is none.
+// The place of the first argument that begins as an option does and is none; past the end where there is none.
 fn odd_place(first: usize) -> usize {
+    let all = os::arg_count();
     let end = end_of_options(first);
-    for i in 0..16usize {
-        let at = after(first, i);
+    let mut at = first;
+    while at < all {
         if (at < end) & (is_odd(at) & !is_value(at)) {
             return at;
         }
+        at += 1;
     }
-    after(first, 16)
+    all
 }
 
 // Whether an option is said that there is not. Then this is said.
@@ -336,6 +400,9 @@ pub fn usage(command: u8) -> u8 {
         ),
         SAVE => tell(b"save DISK NAME ADDRESS FILE [--out OUT [--force]]"),
         DELETE => tell(b"delete DISK NAME [--out OUT [--force]]"),
+        FORECAST => tell(
+            b"forecast DISK [LENGTH...] [--13 | --16]\n       linefiles forecast DISK --files FILE... [--13 | --16]",
+        ),
         ARCHIVE => tell(b"archive DISK OUT [--force] [--13 | --16]"),
         CHECK => tell(b"check DISK ARCHIVE [--13 | --16]"),
         SHOW => tell(b"show ARCHIVE [--raw]"),
@@ -363,13 +430,14 @@ fn takes(command: u8, option: u8) -> bool {
         JSON => (command == LIST) | (command == SURVEY),
         SVG => command == MAP,
         ALL | EMPTY => command == GET,
+        FILES => command == FORECAST,
         _ => true,
     }
 }
 
 // The first option that is said and that the command does not take, 0 where there is none.
 fn misplaced(command: u8, first: usize) -> u8 {
-    for option in 1..10u8 {
+    for option in 1..11u8 {
         if has_option(first, option) & !takes(command, option) {
             return option;
         }
@@ -387,6 +455,7 @@ fn tell_option(option: u8) {
         SVG => tell(b"--svg, which map does"),
         ALL => tell(b"--all, which get does"),
         OUT => tell(b"--out, which save and delete do"),
+        FILES => tell(b"--files, which forecast does"),
         _ => tell(b"--empty, which get does"),
     }
 }

@@ -4,10 +4,10 @@ use Rattle.arguments.proofs.end_of_options.Statement.{statement}
 use Rattle.arguments.proofs.end_of_options.Tie as tie
 
 abbrev Inv-loop : tie.InvT-loop
-Inv-loop first i₀ i = i ≤ 16
+Inv-loop first all at₀ at = first ≤ at
 
 abbrev μ-loop : tie.MeasureT-loop
-μ-loop first i₀ i = 16 - i
+μ-loop first all at₀ at = all - at
 
 pub end-of-options-spec : {M : Type 1} → statement M
 end-of-options-spec =
@@ -15,13 +15,12 @@ end-of-options-spec =
     (tie.spec
     Inv-loop
     μ-loop
+    (λ c κs. search needs)  -- arg-count-requires
     (λ c. search needs)  -- loop-holds
-    (λ c κs. search needs)  -- after-requires
     (λ c κs. search needs)  -- option-of-requires
     (λ c. search needs)  -- returns
-    (λ c. search needs)  -- add-i
+    (λ c. search needs)  -- add-at
     (λ c. search needs)  -- loop-less
     (λ c. search needs)  -- loop-again
-    (λ c κs. search needs)  -- after-requires-2
     (λ c. search needs)  -- returns-2
     )

@@ -4,10 +4,10 @@ use Rattle.arguments.proofs.has_long.Statement.{statement}
 use Rattle.arguments.proofs.has_long.Tie as tie
 
 abbrev Inv-loop : tie.InvT-loop
-Inv-loop first i₀ i = i ≤ 16
+Inv-loop first all at₀ at = first ≤ at
 
 abbrev μ-loop : tie.MeasureT-loop
-μ-loop first i₀ i = 16 - i
+μ-loop first all at₀ at = all - at
 
 pub has-long-spec : {M : Type 1} → statement M
 has-long-spec =
@@ -15,11 +15,11 @@ has-long-spec =
     (tie.spec
     Inv-loop
     μ-loop
+    (λ c κs. search needs)  -- arg-count-requires
     (λ c. search needs)  -- loop-holds
-    (λ c κs. search needs)  -- after-requires
     (λ c κs. search needs)  -- is-long-requires
     (λ c. search needs)  -- returns
-    (λ c. search needs)  -- add-i
+    (λ c. search needs)  -- add-at
     (λ c. search needs)  -- loop-less
     (λ c. search needs)  -- loop-again
     (λ c. search needs)  -- returns-2

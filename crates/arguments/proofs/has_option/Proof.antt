@@ -4,10 +4,10 @@ use Rattle.arguments.proofs.has_option.Statement.{statement}
 use Rattle.arguments.proofs.has_option.Tie as tie
 
 abbrev Inv-loop : tie.InvT-loop
-Inv-loop first option end i₀ i = i ≤ 16
+Inv-loop first option all end at₀ at = first ≤ at
 
 abbrev μ-loop : tie.MeasureT-loop
-μ-loop first option end i₀ i = 16 - i
+μ-loop first option all end at₀ at = all - at
 
 pub has-option-spec : {M : Type 1} → statement M
 has-option-spec =
@@ -15,12 +15,12 @@ has-option-spec =
     (tie.spec
     Inv-loop
     μ-loop
+    (λ c κs. search needs)  -- arg-count-requires
     (λ c κs. search needs)  -- end-of-options-requires
     (λ c. search needs)  -- loop-holds
-    (λ c κs. search needs)  -- after-requires
     (λ c κs. search needs)  -- option-before-requires
     (λ c. search needs)  -- returns
-    (λ c. search needs)  -- add-i
+    (λ c. search needs)  -- add-at
     (λ c. search needs)  -- loop-less
     (λ c. search needs)  -- loop-again
     (λ c. search needs)  -- returns-2

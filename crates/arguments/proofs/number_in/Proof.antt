@@ -4,10 +4,10 @@ use Rattle.arguments.proofs.number_in.Statement.{statement}
 use Rattle.arguments.proofs.number_in.Tie as tie
 
 abbrev Inv-loop : tie.InvT-loop
-Inv-loop table cell k₀ k = k ≤ 12
+Inv-loop table cell k₀ k = k ≤ 13
 
 abbrev μ-loop : tie.MeasureT-loop
-μ-loop table cell k₀ k = 12 - k
+μ-loop table cell k₀ k = 13 - k
 
 pub number-in-spec : {M : Type 1} → statement M
 number-in-spec =

@@ -4,10 +4,10 @@ use Rattle.arguments.proofs.word_place.Statement.{statement}
 use Rattle.arguments.proofs.word_place.Tie as tie
 
 abbrev Inv-loop : tie.InvT-loop
-Inv-loop first k end left₀ i₀ left i = i ≤ 16
+Inv-loop first k all end left₀ at₀ left at = first ≤ at
 
 abbrev μ-loop : tie.MeasureT-loop
-μ-loop first k end left₀ i₀ left i = 16 - i
+μ-loop first k all end left₀ at₀ left at = all - at
 
 pub word-place-spec : {M : Type 1} → statement M
 word-place-spec =
@@ -15,15 +15,14 @@ word-place-spec =
     (tie.spec
     Inv-loop
     μ-loop
+    (λ c κs. search needs)  -- arg-count-requires
     (λ c κs. search needs)  -- end-of-options-requires
     (λ c. search needs)  -- loop-holds
-    (λ c κs. search needs)  -- after-requires
     (λ c κs. search needs)  -- option-before-requires
     (λ c. search needs)  -- returns
     (λ c. search needs)  -- sub-left
-    (λ c. search needs)  -- add-i
+    (λ c. search needs)  -- add-at
     (λ c. search needs)  -- loop-less
     (λ c. search needs)  -- loop-again
-    (λ c κs. search needs)  -- after-requires-2
     (λ c. search needs)  -- returns-2
     )
