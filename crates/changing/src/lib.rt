@@ -13,9 +13,10 @@ use lists::byte_at;
 use outcome::NAME_TAKEN;
 use outcome::NO_SPACE;
 use outcome::NOT_CLEAN;
-use outcome::NOT_ON_ROLL;
 use outcome::OFF_SIZE;
 use outcome::UNWRITABLE_NAME;
+use saving::data_for;
+use saving::lists_for;
 use screen::GOOD;
 use screen::REFUSED;
 use screen::TROUBLE;
@@ -42,7 +43,7 @@ fn catalog_space() -> [u8; 145040] {
 }
 
 // Space for the longest file, and one byte more.
-fn data_space() -> [u8; 32769] {
+pub fn data_space() -> [u8; 32769] {
     [0; 32769]
 }
 
@@ -119,7 +120,8 @@ fn is_spare(disk: &[u8], k: u16) -> bool {
     holders::is_free(disk, 16, p) & !barred
 }
 
-fn spare_sectors(disk: &[u8]) -> u64 {
+// How many sectors a save may take.
+pub fn spare_sectors(disk: &[u8]) -> u64 {
     let mut n: u64 = 0;
     for k in 0..560u16 {
         n = more(n, is_spare(disk, k));
@@ -127,20 +129,27 @@ fn spare_sectors(disk: &[u8]) -> u64 {
     n
 }
 
-// Every line of the catalog is in use.
-fn is_full(disk: &[u8]) -> bool {
+// What is left of n, some being taken.
+pub fn left_of(n: u64, taken: u64) -> u64 {
+    if n < taken {
+        return 0;
+    }
+    n - taken
+}
+
+// How many lines of the catalog are unused or deleted.
+pub fn open_lines(disk: &[u8]) -> u64 {
     let mut out = catalog_space();
     let c = catalog::parse_catalogs(disk, &mut out);
-    c.handed.length / 37 == 7 * (c.pages as usize % 1000)
+    left_of(7 * (c.pages as u64 % 1000), (c.handed.length / 37) as u64)
 }
 
-// Data sectors and lists for a file of so many bytes.
-fn data_sectors(size: usize) -> u64 {
-    (size as u64 % 65536 + 259) / 256
-}
-
-fn list_sectors(size: usize) -> u64 {
-    (data_sectors(size) % 1000 + 121) / 122
+// What a file of so many bytes takes: data sectors and lists, with text between them.
+pub fn sectors_taken(fd: i32, size: usize, between: &[u8]) {
+    let m = data_for(size);
+    count(fd, m as u64, b"data sector", b"data sectors");
+    text(fd, between);
+    count(fd, lists_for(m) as u64, b"list", b"lists");
 }
 
 // Which of the three is missing: bytes, lines, sectors.
@@ -149,19 +158,12 @@ fn tell_space(disk: &[u8], size: usize) {
         tell(b"the file has more than 32768 bytes");
         return;
     }
-    if is_full(disk) {
+    if open_lines(disk) == 0 {
         tell(b"no line of the catalog is unused or deleted");
         return;
     }
     tell(b"the file takes ");
-    count(
-        STDERR_FILENO,
-        data_sectors(size),
-        b"data sector",
-        b"data sectors",
-    );
-    tell(b" and ");
-    count(STDERR_FILENO, list_sectors(size), b"list", b"lists");
+    sectors_taken(STDERR_FILENO, size, b" and ");
     text_number(
         STDERR_FILENO,
         b";\n  of the sectors that are free, ",
@@ -170,11 +172,10 @@ fn tell_space(disk: &[u8], size: usize) {
     tell(b" may be taken");
 }
 
-// Says why a disk is not changed.
+// Says why a file is not saved or deleted.
 fn tell_why(disk: &[u8], why: u8, name: &[u8], size: usize) {
     tell(b"\n  ");
     match why {
-        NOT_CLEAN => tell(b"linefiles crossed shows which sectors are shared, or held but free"),
         UNWRITABLE_NAME => tell_name(name),
         NAME_TAKEN => {
             tell(b"a file is named ");
@@ -191,7 +192,7 @@ fn tell_why(disk: &[u8], why: u8, name: &[u8], size: usize) {
 }
 
 // Whether a disk has 13 sectors a track, which is refused as 1. Then this is said.
-fn is_older(disk: &[u8]) -> bool {
+pub fn is_older(disk: &[u8]) -> bool {
     if disk.len() == 143360 {
         return false;
     }
@@ -200,9 +201,19 @@ fn is_older(disk: &[u8]) -> bool {
     true
 }
 
-fn refuse(disk: &[u8], why: u8, name: &[u8], size: usize) -> u8 {
+// Says why a disk is one that is not changed: 1 to 6, 20.
+pub fn refuse_disk(disk: &[u8], why: u8) -> u8 {
     if why < 7 {
         return file_walk::refuse(disk, why);
+    }
+    refusal(STDERR_FILENO, why);
+    tell(b"\n  linefiles crossed shows which sectors are shared, or held but free\n");
+    REFUSED
+}
+
+fn refuse(disk: &[u8], why: u8, name: &[u8], size: usize) -> u8 {
+    if (why < 7) | (why == NOT_CLEAN) {
+        return refuse_disk(disk, why);
     }
     refusal(STDERR_FILENO, why);
     tell_why(disk, why, name, size);
@@ -217,9 +228,7 @@ fn tell_saved(fd: i32, name: &[u8], at: u16, size: usize) {
     text(fd, b": ");
     count(fd, size as u64, b"byte", b"bytes");
     text(fd, b", ");
-    count(fd, data_sectors(size), b"data sector", b"data sectors");
-    text(fd, b", ");
-    count(fd, list_sectors(size), b"list", b"lists");
+    sectors_taken(fd, size, b", ");
     text(fd, b"\n");
 }
 
