@@ -8,7 +8,9 @@ use arguments::CROSSED;
 use arguments::DELETE;
 use arguments::DENIBBLIZE;
 use arguments::EMPTY;
+use arguments::FILES;
 use arguments::FORCE;
+use arguments::FORECAST;
 use arguments::GET;
 use arguments::JSON;
 use arguments::LIST;
@@ -22,6 +24,7 @@ use arguments::SURVEY;
 use arguments::SVG;
 use arguments::changes;
 use arguments::command_of;
+use arguments::dashes;
 use arguments::has_long;
 use arguments::has_option;
 use arguments::has_words;
@@ -240,6 +243,7 @@ fn on_flat(command: u8, from: &[u8], disk: &[u8], first: usize) -> u8 {
         GET => get(disk, first),
         SAVE => save(from, disk, first),
         DELETE => delete(from, disk, first),
+        FORECAST => plan_report::forecast(disk, first, has_option(first, FILES)),
         ARCHIVE => write_archive(disk, first),
         CHECK => check(disk, first),
         NIBBLIZE => nibblize(disk, first),
@@ -422,6 +426,18 @@ fn wrong_dashes(command: u8, first: usize) -> bool {
     false
 }
 
+// Whether `-` stands for two of the files that `forecast` reads. Then this is said.
+fn dash_twice(command: u8, first: usize) -> bool {
+    if !((command == FORECAST) & has_option(first, FILES)) {
+        return false;
+    }
+    if dashes(first) < 2 {
+        return false;
+    }
+    tell(b"linefiles: only one of disk and files can be standard input\n");
+    true
+}
+
 fn run_command(command: u8, first: usize) -> u8 {
     if !has_words(command, first) {
         return usage(command);
@@ -433,7 +449,7 @@ fn run_command(command: u8, first: usize) -> u8 {
         tell(b"linefiles: disk and archive cannot both be standard input\n");
         return TROUBLE;
     }
-    if wrong_dashes(command, first) {
+    if wrong_dashes(command, first) | dash_twice(command, first) {
         return TROUBLE;
     }
     act(command, first)
