@@ -402,6 +402,144 @@ same delete-13 delete saved.dsk NAME --13
 same list-out list saved.dsk --out outs/none
 rm -rf outs/*
 
+# forecast: what saves of these lengths will need, told without writing
+sha256sum samples/* ring long longest nothing >sums-before
+same forecast-none forecast samples/one-page.dsk
+holds forecast-none-plain plain out
+same forecast-one forecast samples/one-page.dsk 1200
+same forecast-several forecast samples/same-files.dsk 1200 40000 1 300
+holds forecast-several-plain plain out
+same forecast-one-sector forecast samples/same-files.dsk 0 252 253
+same forecast-one-list forecast samples/same-files.dsk 31228 31229
+same forecast-longest forecast samples/same-files.dsk 32768 32769 18446744073709551615
+same forecast-2-64 forecast samples/one-page.dsk 18446744073709551616
+run forecast samples/one-page.dsk 00000000000000000000000252
+holds forecast-zeros-before test "$status $(sed -n 3p out)" = '0    1:   252 bytes: 1 data sector, 1 list'
+for length in '' abc 12x x12 1.5 1,200 ' 1' '1 ' +1 -1 0x10 '$10' 184467440737095516150 99999999999999999999 $'\x1b1'; do
+    run forecast -- samples/one-page.dsk 300 "$length" y
+    shown=${length:-\'\'}
+    holds "forecast-length-$(printf %q "$length")" test "$status $(sed 1d out) $(head -n 1 err)" = "2  linefiles: ${shown/$'\x1b'/\\x1b} is no length;"
+done
+# a full disk; one that fills half way, where a smaller one still goes on; no line left, with sectors and without; what comes first is told
+same forecast-full forecast samples/full.dsk 0 40000
+same forecast-half-way forecast samples/last-pair.dsk 31229 20000 20000 300 10000 0
+holds forecast-half-way-plain plain out
+same forecast-no-line forecast samples/one-page.dsk 300 300 300 300 40000
+same forecast-never-a-line forecast samples/alike.dsk 0
+# a disk with nothing on it: 105 lines, and all but tracks 0 and 17 free
+cp samples/full.dsk blank.dsk
+chmod u+w blank.dsk
+for sector in {1..15}; do dd if=/dev/zero of=blank.dsk bs=1 seek="$(at 17 "$sector" 11)" count=245 conv=notrunc status=none; done
+patch blank.dsk "$(at 17 0 60)" $(for ((k = 1; k < 35; k++)); do [ $k = 17 ] && echo 00 00 00 00 || echo ff ff 00 00; done)
+cp blank.dsk blank-before.dsk
+same forecast-blank forecast blank.dsk
+same forecast-64 forecast blank.dsk {1..64}
+holds forecast-64-plain plain out
+same forecast-65 forecast blank.dsk {1..65}
+same forecast-65-first forecast samples/ring.dsk {1..65}
+run forecast samples/thirteen.dsk {1..500}
+holds forecast-500 test "$status $(head -n 1 err)" = '1 refused: 25 plan long'
+same forecast-far-option forecast blank.dsk {1..40} --json
+run forecast blank.dsk {1..60} "$(printf '%05000d' 7)"
+holds forecast-far-long test "$status $(cat err)" = '2 linefiles: an argument is longer than 4096 bytes'
+
+# as_saved DISK LENGTH..: saves of these lengths, one after the other, do what the forecast says: which go on, what they take in all, and what is left
+as_saved() {
+    local disk=$1 number=0 length
+    shift
+    cp "$disk" plan.dsk
+    chmod u+w plan.dsk
+    run forecast plan.dsk "$@"
+    cp out foretold
+    awk '/^ +[0-9]+: / { print /no space \(21\)/ ? 1 : 0 }' foretold >marks
+    for length in "$@"; do
+        number=$((number + 1))
+        head -c "$length" longest >piece
+        run save plan.dsk "PLAN $number" 8192 piece
+        [ "$status" = 0 ] || grep -qx 'refused: 21 no space' err || return 1
+        echo "$status"
+    done >saved-marks
+    sed -nE 's/^in all: ([0-9]+) data sectors?, ([0-9]+) lists?, ([0-9]+) entry lines?;.*/\1 \2 \3/p' foretold | awk '{ print $1 + $2, $3 }' >foretold-sums
+    for length in "$disk" plan.dsk; do
+        run survey "$length"
+        sed -nE 's/^  (free sectors|entries) +//p' out | xargs
+    done | awk 'NR == 1 { entries = $1; free = $2 } NR == 2 { print free - $2, $1 - entries }' >saved-sums
+    run forecast plan.dsk
+    diff marks saved-marks && diff foretold-sums saved-sums && diff <(tail -n 1 foretold) <(tail -n 1 out) &&
+        sed -nE 's/.*: ([0-9]+) data sectors? and ([0-9]+) lists? needed, ([0-9]+) left$/\1 \2 \3/p' foretold | awk '$1 + $2 <= $3 { bad = 1 } END { exit bad }'
+}
+holds forecast-as-saved-half-way as_saved samples/last-pair.dsk 31229 20000 20000 300 10000 0
+holds forecast-as-saved-other-half as_saved samples/last-pair.dsk 31228 0 32769 1
+holds forecast-as-saved-no-line as_saved samples/one-page.dsk 300 32768 40000 31229 1
+holds forecast-as-saved-moved as_saved samples/moved-catalog.dsk 32768 32768 15000 15000 252 253
+holds forecast-as-saved-full as_saved samples/full.dsk 0 1
+holds forecast-as-saved-blank as_saved blank.dsk 32768 31229 31228 30000 30000 5000 1200 300 252 0 8000 1
+holds forecast-as-saved-many as_saved blank.dsk $(seq 100 700 14000) 0 1 2 3
+
+# forecast --files: the lengths of files
+cp ring $'bell\x07\x1b[2J\\'
+cp ring ./--odd
+same forecast-files forecast samples/last-pair.dsk --files ring long nothing longest $'bell\x07\x1b[2J\\'
+holds forecast-files-plain plain out
+run forecast samples/last-pair.dsk 1000 32768 0 32769 1000
+tail -n 2 out >told
+run forecast --files samples/last-pair.dsk ring long nothing longest ring
+holds forecast-files-sums diff told <(tail -n 2 out)
+holds forecast-files-marks test "$status $(grep -c 'no space (21)' out)" = '1 2'
+run forecast samples/one-page.dsk --files -- --odd
+holds forecast-files-end test "$status $(sed -n 3p out)" = '0    1: --odd: 1000 bytes: 4 data sectors, 1 list'
+run forecast samples/one-page.dsk --files /dev/zero
+holds forecast-files-endless test "$status $(sed -n 3p out)" = '1    1: /dev/zero: more than 32768 bytes: no space (21)'
+run forecast samples/one-page.dsk --files <(head -c 252 long)
+holds forecast-files-pipe test "$status $(sed -n '3s/.*: 252/252/p' out)" = '0 252 bytes: 1 data sector, 1 list'
+same forecast-no-file forecast samples/one-page.dsk --files ring nosuch nothing
+same forecast-folder forecast samples/one-page.dsk --files ring outs
+same forecast-no-path forecast samples/one-page.dsk --files ''
+same forecast-65-files forecast samples/one-page.dsk $(printf 'ring %.0s' {1..65}) --files
+"$root/linefiles" forecast samples/one-page.dsk --files nothing - <ring >out 2>err
+holds forecast-dash-file test "$? $(sed -n 4p out)" = '0    2: standard input: 1000 bytes: 4 data sectors, 1 list'
+"$root/linefiles" forecast - --files nothing ring <samples/one-page.dsk >out 2>err
+holds forecast-dash-disk test "$? $(sed -n 1p out)" = '0 standard input: flat disk of 143360 bytes, 16 sectors a track'
+same forecast-dash-both forecast - --files nothing -
+same forecast-dash-twice forecast samples/one-page.dsk --files - nothing -
+same forecast-dash-length forecast samples/one-page.dsk -
+
+# refused as a save is
+for disk in samples/{crossed,several-pages,ring,ring-of-pages,cut-link,overlong,thirteen}.dsk {no-table,first-page-off,page-off,bad-letter,list-off,link-off,pair-off}.dsk; do
+    run save "$disk" NEW 0 nothing --out outs/none
+    echo "status $status" | cat out err - >saved
+    run forecast "$disk" 0
+    holds "forecast-refused-${disk##*/}" diff saved <(echo "status 1" | cat out err -)
+    run forecast "$disk" --files nothing nosuch
+    holds "forecast-refused-file-${disk##*/}" test "$status" = 2
+done
+for disk in crossed ring thirteen; do same "forecast-$disk" forecast "samples/$disk.dsk" 300; done
+same forecast-no-table forecast no-table.dsk
+
+# read as other commands read: a stream is taken too, by its first mark or as is said, and a name says nothing
+same forecast-nibbles forecast samples/one-page.nib 300
+same forecast-thirteen-nibbles forecast samples/thirteen.nib 300
+cat samples/thirteen.nib samples/one-page.nib >both-13.nib
+run forecast samples/one-page.dsk 300
+body out >told
+run forecast both-13.nib 300 --16
+holds forecast-both-16 diff told <(body out)
+cp samples/one-page.dsk outs/one.po
+run forecast outs/one.po 300
+holds forecast-po diff told <(body out)
+same forecast-missing forecast nosuch.dsk 300
+for option in --force --raw --json --svg --all --empty; do same "option-forecast$option" forecast samples/one-page.dsk 300 $option; done
+same forecast-out forecast samples/one-page.dsk 300 --out outs/none
+for command in list survey crossed; do same "option-$command--files" "$command" samples/one-page.dsk --files; done
+same option-save--files save saved.dsk NAME 8192 ring --files --out outs/none
+same forecast-files-none forecast samples/one-page.dsk --files
+sha256sum samples/* ring long longest nothing >sums-after
+holds forecast-kept diff sums-before sums-after
+holds forecast-kept-blank cmp blank-before.dsk blank.dsk
+holds forecast-kept-names diff <(cat ring ring) <(cat ./--odd $'bell\x07\x1b[2J\\')
+holds forecast-nothing-written tidy "one.po "
+rm -rf outs/*
+
 # archive, check, show
 same archive-one-page archive samples/one-page.dsk outs/flat.arc
 same archive-one-page-nibbles archive samples/one-page.nib outs/nibbles.arc
@@ -964,6 +1102,8 @@ holds dash-no-file not test -e outs/-
 "$root/linefiles" archive samples/one-page.dsk outs/none >&- 2>err
 holds closed-output test "$? $(cat err)" = '2 linefiles: standard output is closed'
 holds closed-output-nothing not test -e outs/none
+"$root/linefiles" forecast samples/one-page.dsk 300 >&- 2>err
+holds closed-output-forecast test "$? $(cat err)" = '2 linefiles: standard output is closed'
 "$root/linefiles" archive samples/one-page.dsk outs/closed 2>&- >out
 holds closed-error sum_is outs/closed dc4c7b00de46357a230ca5eb54154fbe5ffe98d89bd778daf261a36b7a93dda6
 "$root/linefiles" archive samples/ring.dsk outs/none 2>&- >out
@@ -1078,6 +1218,8 @@ if [ -w /dev/full ]; then
     full full-show show outs/written
     cp samples/one-page.dsk outs/changed.dsk
     full full-delete delete outs/changed.dsk 'LINE 7 RING 1'
+    full full-forecast forecast samples/one-page.dsk 300
+    full full-forecast-no-space forecast samples/full.dsk 300
 fi
 if [ "$(id -u)" -ne 0 ]; then # root may read and write all
     chmod a-w outs
@@ -1168,7 +1310,7 @@ same too-many list samples/one-page.dsk samples/full.dsk
 same no-disk survey
 run get samples/several-pages.dsk "$(printf '%05000d' 7)" outs/none
 holds long-argument test "$status $(cat err)" = '2 linefiles: an argument is longer than 4096 bytes'
-for command in map crossed archive check show nibblize denibblize; do same "usage-$command" "$command"; done
+for command in map crossed forecast archive check show nibblize denibblize; do same "usage-$command" "$command"; done
 same usage-map-svg map samples/one-page.dsk --svg
 for word in help --version; do
     "$root/linefiles" $word >/dev/full 2>err
