@@ -433,6 +433,13 @@ for sector in {1..15}; do dd if=/dev/zero of=blank.dsk bs=1 seek="$(at 17 "$sect
 patch blank.dsk "$(at 17 0 60)" $(for ((k = 1; k < 35; k++)); do [ $k = 17 ] && echo 00 00 00 00 || echo ff ff 00 00; done)
 cp blank.dsk blank-before.dsk
 same forecast-blank forecast blank.dsk
+# 123 sectors, and two sectors 0: room for one list and 122 data sectors, and none for a second list
+cp blank.dsk zeros.dsk
+patch zeros.dsk "$(at 17 0 48)" 11 01
+patch zeros.dsk "$(at 17 0 60)" $(for ((k = 1; k < 35; k++)); do case $k in 18 | 19 | 20 | 21 | 22 | 23 | 24) echo ff ff 00 00 ;; 25) echo ff e0 00 00 ;; 27 | 28) echo 00 01 00 00 ;; *) echo 00 00 00 00 ;; esac; done)
+same forecast-zeros forecast zeros.dsk 31229 31228
+head -c 31229 long >piece
+same save-zeros save zeros.dsk NEW 8192 piece
 same forecast-64 forecast blank.dsk {1..64}
 holds forecast-64-plain plain out
 same forecast-65 forecast blank.dsk {1..65}

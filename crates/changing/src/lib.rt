@@ -152,6 +152,23 @@ pub fn sectors_taken(fd: i32, size: usize, between: &[u8]) {
     count(fd, lists_for(m) as u64, b"list", b"lists");
 }
 
+// How many sectors a file of so many bytes takes.
+pub fn sectors_for(size: usize) -> u64 {
+    let m = data_for(size % 65536);
+    (m + lists_for(m)) as u64
+}
+
+// Why so many sectors are not enough, where they are as many as a file takes: only its second list can be without one.
+pub fn say_zeros(fd: i32, size: usize, left: u64, before: &[u8]) {
+    if sectors_for(size) <= left {
+        text(fd, before);
+        text(
+            fd,
+            b"but those left for its second list are sectors 0, which it may not take",
+        );
+    }
+}
+
 // Which of the three is missing: bytes, lines, sectors.
 fn tell_space(disk: &[u8], size: usize) {
     if 32768 < size {
@@ -164,12 +181,10 @@ fn tell_space(disk: &[u8], size: usize) {
     }
     tell(b"the file takes ");
     sectors_taken(STDERR_FILENO, size, b" and ");
-    text_number(
-        STDERR_FILENO,
-        b";\n  of the sectors that are free, ",
-        spare_sectors(disk),
-    );
+    let spare = spare_sectors(disk);
+    text_number(STDERR_FILENO, b";\n  of the sectors that are free, ", spare);
     tell(b" may be taken");
+    say_zeros(STDERR_FILENO, size, spare, b",\n  ");
 }
 
 // Says why a file is not saved or deleted.

@@ -8,6 +8,8 @@ use changing::is_older;
 use changing::left_of;
 use changing::open_lines;
 use changing::refuse_disk;
+use changing::say_zeros;
+use changing::sectors_for;
 use changing::sectors_taken;
 use changing::spare_sectors;
 use length::Length;
@@ -15,8 +17,6 @@ use length::length_of;
 use libc::STDERR_FILENO;
 use libc::STDOUT_FILENO;
 use outcome::PLAN_LONG;
-use saving::data_for;
-use saving::lists_for;
 use screen::GOOD;
 use screen::REFUSED;
 use screen::TROUBLE;
@@ -116,12 +116,6 @@ struct Left {
     ended: u64,
 }
 
-// How many sectors a file of so many bytes takes.
-fn sectors_for(size: usize) -> u64 {
-    let m = data_for(size % 65536);
-    (m + lists_for(m)) as u64
-}
-
 // What is left behind a save, `mark` being 1 where it would end in 21.
 fn left_behind(left: Left, size: u64, mark: u64) -> Left {
     if mark != 0 {
@@ -183,6 +177,7 @@ fn say_missing(size: u64, files: bool, left: Left) {
     sectors_taken(STDOUT_FILENO, size as usize, b" and ");
     text_number(STDOUT_FILENO, b" needed, ", left.sectors);
     say(b" left");
+    say_zeros(STDOUT_FILENO, size as usize, left.sectors, b",\n      ");
 }
 
 // The line of save k of the plan.
