@@ -35,14 +35,16 @@ number-is Refusal.NotOnRoll n e = rw e refl
 number-is Refusal.NotClean n e = rw e refl
 number-is Refusal.NoSpace n e = rw e refl
 number-is Refusal.NameTaken n e = rw e refl
+number-is Refusal.OtherSide n e = rw e refl
+number-is Refusal.OverLimit n e = rw e refl
 number-is Refusal.PlanLong n e = rw e refl
 
 -- a number that is none's
 pub number-none : (n : ℕ)
-    → (n ≡ 1 → ⊥) → (n ≡ 2 → ⊥) → (n ≡ 3 → ⊥) → (n ≡ 4 → ⊥) → (n ≡ 5 → ⊥) → (n ≡ 6 → ⊥) → (n ≡ 7 → ⊥) → (n ≡ 8 → ⊥) → (n ≡ 9 → ⊥) → (n ≡ 10 → ⊥) → (n ≡ 11 → ⊥) → (n ≡ 12 → ⊥) → (n ≡ 13 → ⊥) → (n ≡ 14 → ⊥) → (n ≡ 15 → ⊥) → (n ≡ 16 → ⊥) → (n ≡ 17 → ⊥) → (n ≡ 18 → ⊥) → (n ≡ 20 → ⊥) → (n ≡ 21 → ⊥) → (n ≡ 22 → ⊥) → (n ≡ 25 → ⊥) → Nothing ≡ refusalOf n
+    → (n ≡ 1 → ⊥) → (n ≡ 2 → ⊥) → (n ≡ 3 → ⊥) → (n ≡ 4 → ⊥) → (n ≡ 5 → ⊥) → (n ≡ 6 → ⊥) → (n ≡ 7 → ⊥) → (n ≡ 8 → ⊥) → (n ≡ 9 → ⊥) → (n ≡ 10 → ⊥) → (n ≡ 11 → ⊥) → (n ≡ 12 → ⊥) → (n ≡ 13 → ⊥) → (n ≡ 14 → ⊥) → (n ≡ 15 → ⊥) → (n ≡ 16 → ⊥) → (n ≡ 17 → ⊥) → (n ≡ 18 → ⊥) → (n ≡ 20 → ⊥) → (n ≡ 21 → ⊥) → (n ≡ 22 → ⊥) → (n ≡ 23 → ⊥) → (n ≡ 24 → ⊥) → (n ≡ 25 → ⊥) → Nothing ≡ refusalOf n
 unfolding numbered refusalOf
-number-none n a b c d e f g h i j k l m o p q r s t u v w =
-    rw (ne-eqb _ _ a, ne-eqb _ _ b, ne-eqb _ _ c, ne-eqb _ _ d, ne-eqb _ _ e, ne-eqb _ _ f, ne-eqb _ _ g, ne-eqb _ _ h, ne-eqb _ _ i, ne-eqb _ _ j, ne-eqb _ _ k, ne-eqb _ _ l, ne-eqb _ _ m, ne-eqb _ _ o, ne-eqb _ _ p, ne-eqb _ _ q, ne-eqb _ _ r, ne-eqb _ _ s, ne-eqb _ _ t, ne-eqb _ _ u, ne-eqb _ _ v, ne-eqb _ _ w) refl
+number-none n a b c d e f g h i j k l m o p q r s t u v w x y =
+    rw (ne-eqb _ _ a, ne-eqb _ _ b, ne-eqb _ _ c, ne-eqb _ _ d, ne-eqb _ _ e, ne-eqb _ _ f, ne-eqb _ _ g, ne-eqb _ _ h, ne-eqb _ _ i, ne-eqb _ _ j, ne-eqb _ _ k, ne-eqb _ _ l, ne-eqb _ _ m, ne-eqb _ _ o, ne-eqb _ _ p, ne-eqb _ _ q, ne-eqb _ _ r, ne-eqb _ _ s, ne-eqb _ _ t, ne-eqb _ _ u, ne-eqb _ _ v, ne-eqb _ _ w, ne-eqb _ _ x, ne-eqb _ _ y) refl
 
 -- the number of a refusal
 pub code-is : (r q : Refusal) (n : ℕ) → r ≡ q → n ≡ code q → n ≡ code r

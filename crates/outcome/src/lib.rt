@@ -47,6 +47,10 @@ pub enum Refusal {
     NoSpace,
     // a shown name of the catalog
     NameTaken,
+    // a name of the other side
+    OtherSide,
+    // the side's sectors and the save's together over its limit
+    OverLimit,
     // over 64 lengths
     PlanLong,
 }
@@ -94,6 +98,10 @@ pub const NO_SPACE: u8 = 21;
 
 pub const NAME_TAKEN: u8 = 22;
 
+pub const OTHER_SIDE: u8 = 23;
+
+pub const OVER_LIMIT: u8 = 24;
+
 pub const PLAN_LONG: u8 = 25;
 
 // What a number says.
@@ -103,7 +111,7 @@ pub enum Meaning {
 }
 
 // A word for output: its letters with zeros behind them, and how many letters it has.
-pub struct Word(pub [u8; 15], pub u8);
+pub struct Word(pub [u8; 17], pub u8);
 
 // The answer of a call that hands bytes over in lent space: its refusal's number, 0 for none, and how many bytes it wrote.
 pub struct Handed {
@@ -157,6 +165,8 @@ pub fn refusal_number(r: Refusal) -> u8
         Refusal::NotClean => NOT_CLEAN,
         Refusal::NoSpace => NO_SPACE,
         Refusal::NameTaken => NAME_TAKEN,
+        Refusal::OtherSide => OTHER_SIDE,
+        Refusal::OverLimit => OVER_LIMIT,
         Refusal::PlanLong => PLAN_LONG,
     }
 }
@@ -187,6 +197,8 @@ pub fn refusal_of(number: u8) -> Meaning
         NOT_CLEAN => Meaning::Refused(Refusal::NotClean),
         NO_SPACE => Meaning::Refused(Refusal::NoSpace),
         NAME_TAKEN => Meaning::Refused(Refusal::NameTaken),
+        OTHER_SIDE => Meaning::Refused(Refusal::OtherSide),
+        OVER_LIMIT => Meaning::Refused(Refusal::OverLimit),
         PLAN_LONG => Meaning::Refused(Refusal::PlanLong),
         _ => Meaning::Nothing,
     }
@@ -197,28 +209,30 @@ fn word_of(r: Refusal) -> Word
     ensures { λ w. ⌜ w ≡ wordOf r ⌝ }
 {
     match r {
-        Refusal::OffSize => Word(*b"off size\0\0\0\0\0\0\0", 8),
-        Refusal::NoTable => Word(*b"no table\0\0\0\0\0\0\0", 8),
-        Refusal::OffDisc => Word(*b"off disc\0\0\0\0\0\0\0", 8),
-        Refusal::Ring => Word(*b"ring\0\0\0\0\0\0\0\0\0\0\0", 4),
-        Refusal::CutLink => Word(*b"cut link\0\0\0\0\0\0\0", 8),
-        Refusal::BadLetter => Word(*b"bad letter\0\0\0\0\0", 10),
-        Refusal::Overlong => Word(*b"overlong\0\0\0\0\0\0\0", 8),
-        Refusal::AddressSum => Word(*b"address sum\0\0\0\0", 11),
-        Refusal::DataSum => Word(*b"data sum\0\0\0\0\0\0\0", 8),
-        Refusal::Absent => Word(*b"absent\0\0\0\0\0\0\0\0\0", 6),
-        Refusal::Stranger => Word(*b"stranger\0\0\0\0\0\0\0", 8),
-        Refusal::TrayShort => Word(*b"tray short\0\0\0\0\0", 10),
-        Refusal::NotItsReturn => Word(*b"not its return\0", 14),
-        Refusal::UnwritableName => Word(*b"unwritable name", 15),
-        Refusal::NotBinary => Word(*b"not binary\0\0\0\0\0", 10),
-        Refusal::PageFull => Word(*b"page full\0\0\0\0\0\0", 9),
-        Refusal::CutShort => Word(*b"cut short\0\0\0\0\0\0", 9),
-        Refusal::NotOnRoll => Word(*b"not on roll\0\0\0\0", 11),
-        Refusal::NotClean => Word(*b"not clean\0\0\0\0\0\0", 9),
-        Refusal::NoSpace => Word(*b"no space\0\0\0\0\0\0\0", 8),
-        Refusal::NameTaken => Word(*b"name taken\0\0\0\0\0", 10),
-        Refusal::PlanLong => Word(*b"plan long\0\0\0\0\0\0", 9),
+        Refusal::OffSize => Word(*b"off size\0\0\0\0\0\0\0\0\0", 8),
+        Refusal::NoTable => Word(*b"no table\0\0\0\0\0\0\0\0\0", 8),
+        Refusal::OffDisc => Word(*b"off disc\0\0\0\0\0\0\0\0\0", 8),
+        Refusal::Ring => Word(*b"ring\0\0\0\0\0\0\0\0\0\0\0\0\0", 4),
+        Refusal::CutLink => Word(*b"cut link\0\0\0\0\0\0\0\0\0", 8),
+        Refusal::BadLetter => Word(*b"bad letter\0\0\0\0\0\0\0", 10),
+        Refusal::Overlong => Word(*b"overlong\0\0\0\0\0\0\0\0\0", 8),
+        Refusal::AddressSum => Word(*b"address sum\0\0\0\0\0\0", 11),
+        Refusal::DataSum => Word(*b"data sum\0\0\0\0\0\0\0\0\0", 8),
+        Refusal::Absent => Word(*b"absent\0\0\0\0\0\0\0\0\0\0\0", 6),
+        Refusal::Stranger => Word(*b"stranger\0\0\0\0\0\0\0\0\0", 8),
+        Refusal::TrayShort => Word(*b"tray short\0\0\0\0\0\0\0", 10),
+        Refusal::NotItsReturn => Word(*b"not its return\0\0\0", 14),
+        Refusal::UnwritableName => Word(*b"unwritable name\0\0", 15),
+        Refusal::NotBinary => Word(*b"not binary\0\0\0\0\0\0\0", 10),
+        Refusal::PageFull => Word(*b"page full\0\0\0\0\0\0\0\0", 9),
+        Refusal::CutShort => Word(*b"cut short\0\0\0\0\0\0\0\0", 9),
+        Refusal::NotOnRoll => Word(*b"not on roll\0\0\0\0\0\0", 11),
+        Refusal::NotClean => Word(*b"not clean\0\0\0\0\0\0\0\0", 9),
+        Refusal::NoSpace => Word(*b"no space\0\0\0\0\0\0\0\0\0", 8),
+        Refusal::NameTaken => Word(*b"name taken\0\0\0\0\0\0\0", 10),
+        Refusal::OtherSide => Word(*b"other side's name", 17),
+        Refusal::OverLimit => Word(*b"over limit\0\0\0\0\0\0\0", 10),
+        Refusal::PlanLong => Word(*b"plan long\0\0\0\0\0\0\0\0", 9),
     }
 }
 
@@ -228,7 +242,7 @@ pub fn refusal_word(number: u8) -> Word
 {
     let meaning = refusal_of(number);
     let Meaning::Refused(r) = meaning else {
-        return Word([0u8; 15], 0);
+        return Word([0u8; 17], 0);
     };
     word_of(r)
 }

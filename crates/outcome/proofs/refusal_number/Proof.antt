@@ -28,6 +28,8 @@ refusal-number-spec =
     (λ c. search words)  -- enum-told-20
     (λ c. search words)  -- enum-told-21
     (λ c. search words)  -- enum-told-22
+    (λ c. search words)  -- enum-told-23
+    (λ c. search words)  -- enum-told-24
     (λ c. search words)  -- returns
     (λ c. search words)  -- returns-2
     (λ c. search words)  -- returns-3
@@ -50,4 +52,6 @@ refusal-number-spec =
     (λ c. search words)  -- returns-20
     (λ c. search words)  -- returns-21
     (λ c. search words)  -- returns-22
+    (λ c. search words)  -- returns-23
+    (λ c. search words)  -- returns-24
     )

@@ -29,4 +29,6 @@ refusal-of-spec =
     (λ c. search words)  -- returns-21
     (λ c. search words)  -- returns-22
     (λ c. search words)  -- returns-23
+    (λ c. search words)  -- returns-24
+    (λ c. search words)  -- returns-25
     )
