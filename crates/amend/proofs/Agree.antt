@@ -1,4 +1,5 @@
--- Two disks that agree at some places, the VTOC among them: a search takes the same sectors on both, and leaves them so. Assumes nothing.
+-- Two disks that agree at some places, the VTOC among them: a search takes the same sectors on both, and what is marked, taken or written in both leaves them so.
+-- Assumes nothing.
 use mathlib.Core.Path.{_≡_, refl, sym, ap, subst, _∙_}
 use mathlib.Core.Bool.{Bool, true, false}
 use mathlib.Core.Logic.{inl, inr}
@@ -7,6 +8,8 @@ use mathlib.Core.Option.{Option}
 use Prim.Native.Nat.{ℕ, zero, suc, _+_, _*_, _-_, _/_, _%_, _<_, _≤_, min}
 use native.Mathlib.Omega.{arith}
 use lib.ListN.{length, getD}
+use Rattle.lists.specs.Every.{Every}
+use Rattle.lists.specs.Every
 use Rattle.lists.specs.Fill.{put}
 use Rattle.lists.proofs.Split.{by-lt}
 use Rattle.lists.proofs.Put.{length-put}
@@ -19,11 +22,13 @@ use Rattle.disk.specs.Vtoc.{vtoc, mapWord}
 use Rattle.disk.proofs.Places.{on-track, is-on}
 use Rattle.files.specs.Contents.{maxPairs}
 use Rattle.holders.specs.Holders.{free}
+use Rattle.holders.proofs.Clean.{On}
 use Rattle.amend.specs.Lines.{firstOf, found}
-use Rattle.amend.specs.Search.{Spot, spots, openTrack, takable, seek, withBit, marked, taken, takeOne}
-use Rattle.amend.specs.Save.{dataFor, listsFor, takeData, takeParts, takeFor}
+use Rattle.amend.specs.Search.{Spot, spots, openTrack, takable, seek, withBit, marked, taken, takeOne, freed}
+use Rattle.amend.specs.Save.{Write, dataFor, listsFor, takeData, takeParts, takeFor, written}
 use Rattle.amend.proofs.Puts.{put-off, put-in, sector-fits}
 use Rattle.amend.proofs.Seeks.{first-same, spots-spotted, seek-given}
+use Rattle.amend.proofs.Writes.{Whole}
 
 -- ---- two disks of L bytes that agree at the places P
 pub record Agree (L : ℕ) (P : ℕ → Type 0) (d e : List ℕ) : Type 0 where
@@ -32,7 +37,7 @@ pub record Agree (L : ℕ) (P : ℕ → Type 0) (d e : List ℕ) : Type 0 where
   pub at : (i : ℕ) → P i → getD e i 0 ≡ getD d i 0
 
 -- bytes put into both
-agree-put : {L : ℕ} {P : ℕ → Type 0} (at : ℕ) (x d e : List ℕ) → at + length x ≤ L → Agree L P d e → Agree L P (put at x d) (put at x e)
+pub agree-put : {L : ℕ} {P : ℕ → Type 0} (at : ℕ) (x d e : List ℕ) → at + length x ≤ L → Agree L P d e → Agree L P (put at x d) (put at x e)
 agree-put {L} {P} at x d e f a =
     let u : length d ≡ L = a .sizeD in
     let v : length e ≡ L = a .sizeE in
@@ -155,3 +160,21 @@ module _ (n : ℕ) (some′ : 0 < n) (P : ℕ → Type 0) (table : (k : ℕ) →
   pub for-two : (k : ℕ) (d e : List ℕ) → Two d e → Both (256 * sectors n) P (takeFor n k d) (takeFor n k e)
   unfolding takeFor
   for-two k d e a = parts-two (listsFor (dataFor k)) (dataFor k) false d e a
+
+  -- sectors called free, and sectors written
+  pub freed-two : {ps : List Place} → On n ps → (d e : List ℕ) → Two d e → Two (freed n ps d) (freed n ps e)
+  unfolding freed
+  freed-two Every.none d e a = a
+  freed-two (Every.more {x = p} on o) d e a = freed-two o (marked n d 1 p) (marked n e 1 p) (marked-two d e a 1 p (on-track n p on))
+
+  pub written-two : {ws : List Write} → Every (Whole n) ws → (d e : List ℕ) → Two d e → Two (written n ws d) (written n ws e)
+  unfolding written
+  written-two Every.none d e a = a
+  written-two (Every.more {x = w} h o) d e a =
+      written-two o (put (start n (w .place)) (w .bytes) d) (put (start n (w .place)) (w .bytes) e)
+      (agree-put (start n (w .place)) (w .bytes) d e
+      (let f = sector-fits n d (w .place) (a .sizeD) (h .on) in
+      let l : length d ≡ 256 * sectors n = a .sizeD in
+      let g : length (w .bytes) ≡ 256 = h .long in
+      omega arith)
+      a)

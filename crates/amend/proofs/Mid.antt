@@ -16,6 +16,7 @@ use Rattle.lists.proofs.Among.{unlike}
 use Rattle.lists.proofs.Put.{length-put}
 use Rattle.lists.proofs.Chunks.{split-every}
 use Rattle.lists.proofs.Every.{every-imp, every-both}
+use Rattle.outcome.specs.Outcome.{given}
 use Rattle.disk.specs.declared.Place.{Place}
 use Rattle.disk.specs.Disk.{start, numberOf, onDisk, byteOf, bytesOf, sectors}
 use Rattle.disk.specs.Vtoc.{vtoc}
@@ -26,7 +27,7 @@ use Rattle.amend.specs.Lines.{starts}
 use Rattle.amend.specs.Amending.{Fixed}
 use Rattle.amend.proofs.Puts.{Off, put-off, byte-same, sector-ext, sector-fits}
 use Rattle.amend.proofs.Frame.{entry-same}
-use Rattle.amend.proofs.Lines.{Within, Far, spread-split, starts-each, starts-spread}
+use Rattle.amend.proofs.Lines.{Within, Far, lineHolds, spread-split, starts-each, starts-spread}
 use Rattle.amend.proofs.Reading.{Reading}
 use Rattle.amend.proofs.Change.{Plain}
 use Rattle.amend.proofs.Kept.{Sector, Changed, line-sectors, page-sectors, page-sectors-in, lines-pages, pages-apart}
@@ -60,6 +61,10 @@ lined-put m x at w a b c =
 pub lined-more : {m e f : List ℕ} {x : ℕ} → Lined m x e → Lined e x f → Lined m x f
 lined-more a b = record { size = b .size ∙ a .size; keeps = λ i o. b .keeps i o ∙ a .keeps i o }
 
+-- the 35 bytes of the line at y are as they were
+abbrev pub LineKept : (d e : List ℕ) → ℕ → Type 0
+LineKept d e y = (k : ℕ) → k < 35 → getD e (y + k) 0 ≡ getD d (y + k) 0
+
 -- e is what a save or a delete makes of d: clean, with these lines; apart from the VTOC, the page of the line and the sectors `new` it is as it was, and
 -- the map calls what it called free, without `new` and with `gone`
 pub record After (n : ℕ) (d e : List ℕ) (ls : List (Option File)) (line : ℕ) (new gone : List Place) : Type 0 where
@@ -76,11 +81,15 @@ pub record After (n : ℕ) (d e : List ℕ) (ls : List (Option File)) (line : �
   pub newUsed : (q : Place) → onDisk n q ≡ true → 0 < held n new (numberOf n q) → free n e q ≡ false
   pub goneFree : (q : Place) → onDisk n q ≡ true → 0 < held n gone (numberOf n q) → free n e q ≡ true
   pub mapKept : (q : Place) → onDisk n q ≡ true → held n new (numberOf n q) ≡ 0 → held n gone (numberOf n q) ≡ 0 → free n e q ≡ free n d q
-  -- line by line: the others, and all sectors that the lines of d hold, are as they were
+  -- line by line: the others, and all sectors that the lines of d hold, are as they were; this one held `gone` and holds `new`
   pub old : Reading n d
   pub front : List ℕ
   pub back : List ℕ
   pub changed : Changed n d e old front line back
+  pub keptFront : Every (LineKept d e) front
+  pub keptBack : Every (LineKept d e) back
+  pub wasHeld : lineHolds n d line ≡ given gone
+  pub isHeld : lineHolds n e line ≡ given new
 
 -- a line ends within the disk
 pub line-fits : (n : ℕ) → 0 < n → (d : List ℕ) → length d ≡ 256 * sectors n → (r : Reading n d) (a : List ℕ) (x : ℕ) (b : List ℕ) → starts n (r .ps) ≡ a ++ x ∷ b
@@ -115,14 +124,15 @@ module _ (n : ℕ) (z : 0 < n) (d : List ℕ) (r : Reading n d) (new : List Plac
         (by-lt (numberOf n p) (numberOf n q) (λ b. inr (omega arith)) (λ a. inl (omega arith)))
 
     -- another line
-    other-line : (p : Place) (y : ℕ) → Sector n d p → Within n p y → Far x y → entryFrom e y ≡ entryFrom d y
-    other-line p y s w f =
-        entry-same d e (line .size ∙ mid .size) y
-        (λ k h.
+    other-kept : (p : Place) (y : ℕ) → Sector n d p → Within n p y → Far x y → LineKept d e y
+    other-kept p y s w f k h =
         let j : ℕ = y + k - start n p in
         let q : y + k ≡ start n p + j = omega arith in
         let o : Off x 35 (y + k) = ⊎-elim (λ a. inr (omega arith)) (λ a. inl (omega arith)) f in
-        line .keeps (y + k) o ∙ ap (λ (i : ℕ). getD m i 0) q ∙ byte-same n d m p (stays p s) j (omega arith) ∙ ap (λ (i : ℕ). getD d i 0) (sym q))
+        line .keeps (y + k) o ∙ ap (λ (i : ℕ). getD m i 0) q ∙ byte-same n d m p (stays p s) j (omega arith) ∙ ap (λ (i : ℕ). getD d i 0) (sym q)
+
+    other-line : (p : Place) (y : ℕ) → Sector n d p → Within n p y → Far x y → entryFrom e y ≡ entryFrom d y
+    other-line p y s w f = entry-same d e (line .size ∙ mid .size) y (other-kept p y s w f)
 
     module _ (a b : List ℕ) (split : starts n (r .ps) ≡ a ++ x ∷ b) where
       -- the page of each line
@@ -146,6 +156,12 @@ module _ (n : ℕ) (z : 0 < n) (d : List ℕ) (r : Reading n d) (new : List Plac
 
       others : {ys : List ℕ} → Every Paged ys → Every (Far x) ys → Every (λ (y : ℕ). entryFrom e y ≡ entryFrom d y) ys
       others p f = every-imp (λ y t. other-line (t .0 .0) y (t .0 .1 .0) (t .0 .2) (t .1)) (every-both p f)
+
+      kept-in : {ys : List ℕ} → Every Paged ys → Every (Far x) ys → Every (LineKept d e) ys
+      kept-in p f = every-imp (λ y t. other-kept (t .0 .0) y (t .0 .1 .0) (t .0 .2) (t .1)) (every-both p f)
+
+      pub kept-lines : Every (LineKept d e) a × Every (LineKept d e) b
+      kept-lines = (kept-in (paged-parts .0) (spread .0), kept-in (tail (paged-parts .1)) (spread .1))
 
       pub mid-changed : Plain e x → Changed n d e r a x b
       mid-changed plain =

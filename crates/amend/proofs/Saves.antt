@@ -48,7 +48,7 @@ use Rattle.amend.proofs.Lines.{Within, lineHolds}
 use Rattle.amend.proofs.Reading.{Reading, given-same}
 use Rattle.amend.proofs.Change.{Plain}
 use Rattle.amend.proofs.Kept.{Sector, Changed, Parts, parts-of, changed-reading, changed-held}
-use Rattle.amend.proofs.Mid.{Mid, Lined, After, lined-put, line-fits, mid-changed, line-page, line-free, line-sector, line-rest, line-fixed, line-paged}
+use Rattle.amend.proofs.Mid.{Mid, Lined, After, lined-put, line-fits, mid-changed, kept-lines, line-page, line-free, line-sector, line-rest, line-fixed, line-paged}
 use Rattle.amend.proofs.Listed.{first-split, any-none, none-any, fill-at, line-open, each-any}
 use Rattle.amend.proofs.Writes.{Whole, placesOf, written-size, written-other, written-at, written-bytes, file-places, length-list, list-bytes, bytes-padded}
 use Rattle.amend.proofs.Stored.{Stand, lists-are, pairs-are, stored-sectors, stored-file}
@@ -166,6 +166,12 @@ whole-data n [] s Every.none = Every.none
 whole-data n (p ∷ ps) s (Every.more t ts) =
     Every.more (record { on = t .on; long = Rattle.lists.proofs.Laws.length-padded 256 (take 256 s) (rw length-take (omega arith)) }) (whole-data n ps (drop 256 s) ts)
 
+pub whole-file : (n m : ℕ) (gs : List Part) (address : ℕ) (bytes : List ℕ) → Shaped m false gs → Every (Taker n) (map (λ (g : Part). g .list) gs)
+    → Every (Taker n) (dataOf gs) → Every (Whole n) (fileWrites gs address bytes)
+unfolding fileWrites
+whole-file n m gs address bytes shape a b =
+    every-append (whole-lists n 0 gs (shaped-small m false gs shape) a) (whole-data n (dataOf gs) (fileRecord address (length bytes) bytes) b)
+
 -- .. and are bytes
 on-takers : (n : ℕ) {ps : List Place} → Every (Taker n) ps → On n ps
 on-takers n e = every-imp (λ p t. t .on) e
@@ -215,9 +221,10 @@ in-places n (w ∷ ws) =
     (in-places n ws))
 
 -- ---- a save on a clean disk
--- what is read of the line at x of f, filled with a file of k bytes in the parts gs: its lists and their pairs, so many; the VTOC is that of m
-pub record Filled (n k : ℕ) (f : List ℕ) (x : ℕ) (gs : List Part) (m : List ℕ) : Type 0 where
+-- what is read of the line at x of f, filled with a file of k bytes in the parts gs: its name, its lists and their pairs, so many; the VTOC is that of m
+pub record Filled (n k : ℕ) (name f : List ℕ) (x : ℕ) (gs : List Part) (m : List ℕ) : Type 0 where
   pub inUseNow : inUse f x ≡ true
+  pub shows : shown (entryFrom f x .raw) ≡ name
   pub listsIs : lists n f (entryFrom f x) ≡ given (map (λ (g : Part). g .list) gs)
   pub pairsIs : flatMap (pairsOf n f) (map (λ (g : Part). g .list) gs) ≡ dataOf gs
   pub dataMany : length (dataOf gs) ≡ dataFor k
@@ -259,10 +266,8 @@ module _ (n : ℕ) (some′ : 0 < n) (few : n ≤ 16) (d : List ℕ) (bytesd : B
     takes = order-takes n some′ few (g ∷ gs) (tk .takes)
 
     whole : Every (Whole n) W
-    unfolding W fileWrites
-    whole =
-        every-append (whole-lists n 0 (g ∷ gs) (shaped-small (dataFor (length bytes)) false (g ∷ gs) shape) (takes .0))
-        (whole-data n (dataOf (g ∷ gs)) (fileRecord address (length bytes) bytes) (takes .1))
+    unfolding W
+    whole = whole-file n (dataFor (length bytes)) (g ∷ gs) address bytes shape (takes .0) (takes .1)
 
     places : (k : ℕ) → held n (placesOf W) k ≡ held n L k
     unfolding W
@@ -452,14 +457,19 @@ module _ (n : ℕ) (some′ : 0 < n) (few : n ≤ 16) (d : List ℕ) (bytesd : B
           front = a;
           back = b;
           changed = changed;
+          keptFront = kept-lines n some′ d r L w x e mid lined (tk .was) a b split .0;
+          keptBack = kept-lines n some′ d r L w x e mid lined (tk .was) a b split .1;
+          wasHeld = out-holds n d x (not-true (inUse d x) here) .0;
+          isHeld = holds;
         }
 
     -- what is read of the line
-    filled-with : Filled n (length bytes) e x (g ∷ gs) m
+    filled-with : Filled n (length bytes) name e x (g ∷ gs) m
     unfolding page
     filled-with =
         record {
           inUseNow = in-use;
+          shows = reads .name;
           listsIs = lists-are n e (entryFrom e x) g gs address bytes (omega arith) (reads .list) shape many′ (takes .0) (takes .1) (stands .0) (stands .1);
           pairsIs = pairs-are n e (entryFrom e x) g gs address bytes (omega arith) (reads .list) shape many′ (takes .0) (takes .1) (stands .0) (stands .1);
           dataMany = many′;
@@ -472,7 +482,7 @@ module _ (n : ℕ) (some′ : 0 < n) (few : n ≤ 16) (d : List ℕ) (bytesd : B
       → Every (λ (y : ℕ). not (inUse d y) ≡ false) a → not (inUse d x) ≡ true → (gs : List Part) (m : List ℕ)
       → Taking n d (sectorsIn gs) m → Shaped (dataFor (length bytes)) false gs → length gs ≡ listsFor (dataFor (length bytes))
       → After n d (madeOf n d name address bytes x gs m) (fillFirst (fileSaved name bytes) (r .ls)) x (sectorsIn gs) []
-      × Filled n (length bytes) (madeOf n d name address bytes x gs m) x gs m
+      × Filled n (length bytes) name (madeOf n d name address bytes x gs m) x gs m
   unfolding e rec count w W
   conclude-for named short x a b split before here [] m tk shape many = absurd (omega arith)
   conclude-for named short x a b split before here (g ∷ gs) m tk shape many =
@@ -480,7 +490,7 @@ module _ (n : ℕ) (some′ : 0 < n) (few : n ≤ 16) (d : List ℕ) (bytesd : B
 
   pub save-clean : (f : List ℕ) → saved n d name address bytes ≡ given f
       → (x : ℕ) × (gs : List Part) × (m : List ℕ) × (openLine n d ≡ given x) × (takeFor n (length bytes) d ≡ given (gs, m))
-      × After n d f (fillFirst (fileSaved name bytes) (r .ls)) x (sectorsIn gs) [] × Filled n (length bytes) f x gs m
+      × After n d f (fillFirst (fileSaved name bytes) (r .ls)) x (sectorsIn gs) [] × Filled n (length bytes) name f x gs m
   save-clean f h =
       let s = saved-given n d name address bytes f h in
       let l = first-split (λ (y : ℕ). not (inUse d y)) (starts n (r .ps)) (s .x) (open-line n d name address bytes (r .ps) (s .x) (r .paged) (s .lineIs)) in
@@ -488,6 +498,6 @@ module _ (n : ℕ) (some′ : 0 < n) (few : n ≤ 16) (d : List ℕ) (bytesd : B
       let k = take-for n some′ few (length bytes) d (t .0) (t .1) size (t .2) in
       let q =
       subst
-      (λ (v : List ℕ). After n d v (fillFirst (fileSaved name bytes) (r .ls)) (s .x) (sectorsIn (t .0)) [] × Filled n (length bytes) v (s .x) (t .0) (t .1)) (sym (t .3))
+      (λ (v : List ℕ). After n d v (fillFirst (fileSaved name bytes) (r .ls)) (s .x) (sectorsIn (t .0)) [] × Filled n (length bytes) name v (s .x) (t .0) (t .1)) (sym (t .3))
       (conclude-for (s .named) (s .short) (s .x) (l .0) (l .1) (l .2) (l .3) (l .4) (t .0) (t .1) (k .0) (k .1) (k .2)) in
       (s .x, t .0, t .1, s .lineIs, t .2, q .0, q .1)
