@@ -102,7 +102,7 @@ pub fn file_type(code: u8) -> u8
 }
 
 // A name byte as it is shown.
-fn letter_of(b: u8) -> u8
+pub fn letter_of(b: u8) -> u8
     ensures { λ r. ⌜ r ≡ letter b ⌝ }
 {
     if 128 < b {

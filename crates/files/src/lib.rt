@@ -216,7 +216,7 @@ fn end_thread(k: u16, m: u32, good: bool, head: Place) -> Thread
 }
 
 // The lists from `first` on: at each link 5, 3, 4, and then 3 for their pairs.
-fn build_file(disk: &[u8], per: u8, first: Place) -> Thread
+pub fn build_file(disk: &[u8], per: u8, first: Place) -> Thread
     ensures { λ r. ⌜ r ≡ followed per (now (disk .entry)) (listWalk per (now (disk .entry)) first) ⌝ }
 {
     let most = chain_budget(per);

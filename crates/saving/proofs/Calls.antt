@@ -6,19 +6,20 @@ use mathlib.Core.Option.{Option, none, some}
 use Prim.Native.Nat.{ℕ, _+_, _*_, _<_, _≤_, _^_}
 use native.Mathlib.Omega.{arith}
 use lib.ListN.{length, getD, replicate}
-use borrow.Author.Tests.{lt-leb, le-leb, not-true, not-false}
+use lib.Dec.{leb, ltb}
+use borrow.Author.Tests.{lt-leb, le-leb, lt-ltb, le-ltb, not-true, not-false}
 use borrow.Author.Needs.{needs}
 use Rattle.lists.specs.Fill.{put, placed, padded}
 use Rattle.lists.specs.Select.{all, any}
-use Rattle.lists.proofs.Split.{both-true}
+use Rattle.lists.proofs.Split.{by-test, by-lt, both-true}
 use Rattle.lists.proofs.Put.{placed-put}
 use Rattle.lists.proofs.Every.{every-imp}
 use Rattle.outcome.specs.declared.Refusal.{Refusal}
-use Rattle.outcome.specs.declared.Refusal.the-variants.{UnwritableName, NotOnRoll, NameTaken, NoSpace}
+use Rattle.outcome.specs.declared.Refusal.the-variants.{UnwritableName, NotOnRoll, NameTaken, NoSpace, OtherSide, OverLimit}
 use Rattle.outcome.specs.Refusal.{code}
 use Rattle.outcome.specs.Outcome.{Outcome, refused, given, _>>=_, _>>_, require, number, Hands}
 use Rattle.outcome.specs.declared.Handed.{Handed}
-use Rattle.outcome.proofs.Outcome.{number-0}
+use Rattle.outcome.proofs.Outcome.{gives, refused-given, number-0}
 use Rattle.disk.specs.declared.Place.{Place}
 use Rattle.disk.specs.Disk.{place, start, bytesOf, onDisk, sectors}
 use Rattle.disk.specs.Vtoc.{vtoc}
@@ -27,27 +28,37 @@ use Rattle.files.specs.Contents.{Contents, listWalk, lists, pairsOf, placeBytes
 use Rattle.records.specs.Records.{entryRecord, entryWritten}
 use Rattle.records.proofs.Entries.{length-record}
 use Rattle.holders.specs.Holders.{withPairs}
-use Rattle.holders.proofs.Refusals.{sectors-given, sectors-on}
-use Rattle.amend.specs.Lines.{firstOf, lastOf, inUse, savable, starts, lineOf, openLine, tidy, holdsName}
+use Rattle.holders.proofs.Refusals.{contentsWith, sectors-given, sectors-on}
+use Rattle.amend.specs.Lines.{firstOf, lastOf, inUse, savable, starts, lineOf, openLine, tidy, present, holdsName}
 use Rattle.amend.specs.Search.{freed}
-use Rattle.amend.specs.Save.{Part, dataFor, listsFor, takeFor, firstList, sectorsIn, dataOf, written, fileWrites, stored, saved, savedAt, deleted, deletedAt}
+use Rattle.amend.specs.Save.{Part, dataFor, listsFor, takeFor, firstList, sectorsIn, dataOf, written, fileWrites, isNew, stored, saved, savedAt, removed, deleted, deletedAt}
 use Rattle.amend.specs.Amending.{kept}
 use Rattle.amend.proofs.Lines.{lineHolds}
 use Rattle.amend.proofs.Takes.{Taker, Taking, Shaped, shaped-data, take-for}
 use Rattle.amend.proofs.Saves.{savable-parts}
-use Rattle.amend.proofs.Reading.{Reading, contents-size, tidy-given, tidy-reading, reading-tidy}
+use Rattle.amend.proofs.Reading.{Reading, given-same, contents-size, tidy-given, tidy-reading, reading-tidy}
 use Rattle.amend.proofs.Kept.{parts-of}
 use Rattle.amend.proofs.Mid.{line-fits}
-use Rattle.amend.proofs.Listed.{any-here, first-split, last-split, last-none, line-name, each-any}
-use Rattle.amend.proofs.Answers.{save-is, delete-is}
+use Rattle.amend.proofs.Listed.{any-present, any-here, first-split, last-split, last-none, line-name, each-any}
+use Rattle.sides.specs.declared.Side.{Side}
+use Rattle.sides.specs.Sides.{belongs, heldBy, within, savedFor, deletedFor}
+use Rattle.sides.specs.Steps.{tally}
+use Rattle.sides.proofs.Own.{own-given, held-is}
+use Rattle.sides.proofs.Counts.{counted}
 use Rattle.allot.specs.Table.{Allotted}
 use Rattle.allot.proofs.Allots.{places-fit, allotted-none, allotted-all}
 use Rattle.filing.specs.Filing.{placeIn, filed, Filed}
 use Rattle.filing.proofs.Filed.{filed-long, filed-written, first-place}
 use Rattle.saving.specs.declared.Sight.{Sight}
 use Rattle.saving.specs.Saving.{Amended}
-use Rattle.saving.specs.Steps.{isSome, startOr0, bears, idle, sightOf, Seen, Paged, frees, Linked, ListsFreed, Copied, Erasable, Erased, Storable, EntryPut, FilePut}
+use Rattle.saving.specs.declared.Asker.{Asker}
+use Rattle.saving.specs.Askers.{noSide, oneSide, mayName, overLimit, roomFor, allowed, savedBy, deletedBy}
+use Rattle.saving.specs.Steps.{isSome, startOr0, bears, idle, sightOf, Seen, Paged, frees, Linked, ListsFreed, Copied, Erasable, Erased, Seated, Storable, EntryPut, FilePut}
 use Rattle.saving.proofs.Freeing.{length-frees, vtoc-long, copy-is, copy-freed}
+
+-- not over is within
+leb-ltb : (a b : ℕ) → leb a b ≡ not (ltb b a)
+leb-ltb a b = by-lt b a (λ h. rw (lt-leb a b h, lt-ltb b a h) refl) (λ h. rw (le-leb a b h, le-ltb b a h) refl)
 
 -- an option that is there, and one that is not
 some-of : (o : Option ℕ) (x : ℕ) → x ≡ startOr0 o → isSome o ≡ true → o ≡ some x
@@ -69,142 +80,317 @@ accepts d e q = record { is = sym (ap number q); disk = sym (ap (kept d) q) }
 same-call : {o p : Outcome (List ℕ)} {d after : List ℕ} {r : ℕ} → o ≡ p → Amended p d after r → Amended o d after r
 same-call {o} {p} {d} e a = record { is = a .is ∙ sym (ap number e); disk = a .disk ∙ sym (ap (kept d) e) }
 
-module _ (d : List ℕ) (n : ℕ) (e : n ≡ number (tidy 16 d)) where
-  -- ---- a disk that is not tidy
-  pub delete-refused : (name : List ℕ) → (n ≡ 0 → ⊥) → Amended (deleted 16 d name) d d n
-  unfolding deleted
-  delete-refused name h = go (tidy 16 d) e
+-- ---- what both calls begin with
+module _ (d : List ℕ) (a : Asker) (name : List ℕ) where
+  pub allow-refused : (n : ℕ) → n ≡ number (tidy 16 d) → (n ≡ 0 → ⊥) → n ≡ number (allowed 16 d a name)
+  unfolding allowed
+  allow-refused n e h = go _ (tidy 16 d) e
     where
-      go : (o : Outcome Contents) → n ≡ number o → Amended (o >> require (savable name) UnwritableName >> (lineOf 16 d name >>= λ x. deletedAt 16 d x)) d d n
+      go : (f : Contents → Outcome Contents) (o : Outcome Contents) → n ≡ number o → n ≡ number (o >>= f)
+      go f (refused r) q = q
+      go f (given c) q = absurd (h q)
+
+  allowed-from : (c : Contents) → tidy 16 d ≡ given c → allowed 16 d a name ≡ (require (savable name) UnwritableName >> require (mayName a name) OtherSide >> given c)
+  unfolding allowed
+  allowed-from c h = rw h refl
+
+  -- the two tests, and what they come to
+  abbrev tests : Contents → (w v : Bool) → Outcome Contents
+  tests c w v = require w UnwritableName >> require v OtherSide >> given c
+
+  module _ (n : ℕ) (e : n ≡ number (tidy 16 d)) (z : n ≡ 0) where
+    allowed-is : (w v : Bool) → savable name ≡ w → mayName a name ≡ v → (c : Contents) × (number (allowed 16 d a name) ≡ number (tests c w v))
+    allowed-is w v f g =
+        let t = number-0 (tidy 16 d) (sym e ∙ z) in
+        (t .0, ap number (allowed-from (t .0) (t .1)) ∙ (λ i. number (tests (t .0) (f i) (g i))))
+
+    module _ (w : Bool) (f : w ≡ savable name) where
+      pub allow-unwritable : w ≡ false → 14 ≡ number (allowed 16 d a name)
+      allow-unwritable h = sym (allowed-is false (mayName a name) (sym f ∙ h) refl .1)
+
+      module _ (y : w ≡ true) (v : Bool) (g : v ≡ mayName a name) where
+        pub allow-other : v ≡ false → 23 ≡ number (allowed 16 d a name)
+        allow-other h = sym (allowed-is true false (sym f ∙ y) (sym g ∙ h) .1)
+
+        pub allow-all : v ≡ true → 0 ≡ number (allowed 16 d a name)
+        allow-all h = sym (allowed-is true true (sym f ∙ y) (sym g ∙ h) .1)
+
+  -- where nothing is refused, the disk is tidy and the name allowed
+  allowed-parts : (c : Contents) → allowed 16 d a name ≡ given c → (tidy 16 d ≡ given c) × (savable name ≡ true)
+  unfolding allowed
+  allowed-parts c h =
+      let g = gives (tidy 16 d) _ c h in
+      let t = steps (g .0) (savable name) (mayName a name) (g .2) in
+      (g .1 ∙ ap given (t .1), t .0)
+    where
+      steps : (x : Contents) (w v : Bool) → require w UnwritableName >> require v OtherSide >> given x ≡ given c → (w ≡ true) × (x ≡ c)
+      steps x true true q = (refl, given-same refl q)
+      steps x true false q = absurd (refused-given q)
+      steps x false v q = absurd (refused-given q)
+
+pub ruleset allows = (allow-refused, allow-unwritable, allow-other, allow-all, not-true, not-false, needs)
+
+module _ (d : List ℕ) (a : Asker) (name : List ℕ) (n : ℕ) (e : n ≡ number (allowed 16 d a name)) where
+  -- ---- a call that is refused so
+  pub delete-refused : (n ≡ 0 → ⊥) → Amended (deletedBy 16 d a name) d d n
+  unfolding deletedBy
+  delete-refused h = go (allowed 16 d a name) e
+    where
+      go : (o : Outcome Contents) → n ≡ number o → Amended (o >> (lineOf 16 d name >>= λ x. deletedAt 16 d x)) d d n
       go (refused r) q = record { is = q; disk = refl }
       go (given c) q = absurd (h q)
 
-  pub save-refused : (name : List ℕ) (address : ℕ) (bytes : List ℕ) → (n ≡ 0 → ⊥) → Amended (saved 16 d name address bytes) d d n
-  unfolding saved
-  save-refused name address bytes h = go _ (tidy 16 d) e
+  pub save-refused : (address : ℕ) (bytes : List ℕ) → (n ≡ 0 → ⊥) → Amended (savedBy 16 d a name address bytes) d d n
+  unfolding savedBy
+  save-refused address bytes h = go _ (allowed 16 d a name) e
     where
       go : (f : Contents → Outcome (List ℕ)) (o : Outcome Contents) → n ≡ number o → Amended (o >>= f) d d n
       go f (refused r) q = record { is = q; disk = refl }
       go f (given c) q = absurd (h q)
 
-  -- ---- one that is
+  -- ---- one that is not
   module _ (z : n ≡ 0) where
-    has : (c : Contents) × (tidy 16 d ≡ given c)
-    has = number-0 (tidy 16 d) (sym e ∙ z)
+    has : (c : Contents) × (allowed 16 d a name ≡ given c)
+    has = number-0 (allowed 16 d a name) (sym e ∙ z)
+
+    tidied : tidy 16 d ≡ given (has .0)
+    tidied = allowed-parts d a name (has .0) (has .1) .0
 
     reads : Reading 16 d
-    reads = tidy-reading 16 d (has .0) (has .1) .0
+    reads = tidy-reading 16 d (has .0) tidied .0
 
     pub tidy-long : length d ≡ 143360
-    tidy-long = contents-size 16 d (has .0) (tidy-given 16 d (has .0) (has .1) .1)
+    tidy-long = contents-size 16 d (has .0) (tidy-given 16 d (has .0) tidied .1)
 
     pub tidy-paged : Paged d
     tidy-paged = record { places = reads .ps; is = reads .paged }
 
-    module _ (name : List ℕ) where
-      deleted-is : deleted 16 d name ≡ (require (savable name) UnwritableName >> (lineOf 16 d name >>= λ x. deletedAt 16 d x))
-      deleted-is = delete-is 16 d reads (reading-tidy 16 d reads) name
+    -- the name is new by the contents where it is by the lines
+    new-is : isNew (has .0) name ≡ not (any (holdsName name) (reads .ls))
+    new-is =
+        let q : has .0 ≡ contentsWith 16 d (present (reads .ls)) = given-same tidied (reading-tidy 16 d reads) in
+        ap (λ (c : Contents). isNew c name) q ∙ ap not (any-present name (reads .ls))
 
-      pub delete-unwritable : (w : Bool) → w ≡ savable name → w ≡ false → Amended (deleted 16 d name) d d 14
-      delete-unwritable w f h = refuses d UnwritableName (deleted-is ∙ rw (← f, h) refl)
+    -- what the side that asks holds is what was counted
+    over-is : (k : ℕ) → roomFor 16 d a k ≡ require (not (overLimit d a k)) OverLimit
+    unfolding within
+    over-is k =
+        by-test (a .sided)
+        (λ t.
+        let g = own-given 16 d (a .side) reads in
+        let m : ℕ = length (flatMap (λ t. t) (g .0)) in
+        let h : heldBy 16 d (a .side) ≡ given m = held-is 16 d (a .side) (flatMap (λ t. t) (g .0)) (g .2) in
+        let q : tally 16 d (a .side) ≡ m = counted 16 d (a .side) m h in
+        rw (t, h, q) (ap (λ (b : Bool). require b OverLimit) (leb-ltb (m + (listsFor (dataFor k) + dataFor k)) (a .limit))))
+        (λ t. rw t refl)
 
-      -- ---- what a look found
-      module _ (s : Sight) (u : Seen d name s) where
-        abbrev every : List ℕ
-        every = starts 16 (reads .ps)
+    deleted-is : deletedBy 16 d a name ≡ (lineOf 16 d name >>= λ x. deletedAt 16 d x)
+    unfolding deletedBy
+    deleted-is = rw (has .1) refl
 
-        seen-is : s ≡ sightOf d name every
-        seen-is = u .is (reads .ps) (reads .paged)
+    saved-is : (address : ℕ) (bytes : List ℕ) → savedBy 16 d a name address bytes
+        ≡ (require (not (any (holdsName name) (reads .ls))) NameTaken >> require (not (overLimit d a (length bytes))) OverLimit >> stored 16 d name address bytes)
+    unfolding savedBy
+    saved-is address bytes = rw (has .1, new-is, over-is (length bytes)) refl
 
-        last-is : s .named ≡ true → lastOf (bears d name) every ≡ some (s .line)
-        unfolding sightOf
-        last-is h = some-of (lastOf (bears d name) every) (s .line) (ap (λ (t : Sight). t .line) seen-is) (sym (ap (λ (t : Sight). t .named) seen-is) ∙ h)
+    -- ---- what a look found
+    module _ (s : Sight) (u : Seen d name s) where
+      abbrev every : List ℕ
+      every = starts 16 (reads .ps)
 
-        last-not : s .named ≡ false → lastOf (bears d name) every ≡ none
-        unfolding sightOf
-        last-not h = none-of (lastOf (bears d name) every) (sym (ap (λ (t : Sight). t .named) seen-is) ∙ h)
+      seen-is : s ≡ sightOf d name every
+      seen-is = u .is (reads .ps) (reads .paged)
 
-        first-is : s .vacant ≡ true → firstOf (idle d) every ≡ some (s .room)
-        unfolding sightOf
-        first-is h = some-of (firstOf (idle d) every) (s .room) (ap (λ (t : Sight). t .room) seen-is) (sym (ap (λ (t : Sight). t .vacant) seen-is) ∙ h)
+      last-is : s .named ≡ true → lastOf (bears d name) every ≡ some (s .line)
+      unfolding sightOf
+      last-is h = some-of (lastOf (bears d name) every) (s .line) (ap (λ (t : Sight). t .line) seen-is) (sym (ap (λ (t : Sight). t .named) seen-is) ∙ h)
 
-        first-not : s .vacant ≡ false → firstOf (idle d) every ≡ none
-        unfolding sightOf
-        first-not h = none-of (firstOf (idle d) every) (sym (ap (λ (t : Sight). t .vacant) seen-is) ∙ h)
+      last-not : s .named ≡ false → lastOf (bears d name) every ≡ none
+      unfolding sightOf
+      last-not h = none-of (lastOf (bears d name) every) (sym (ap (λ (t : Sight). t .named) seen-is) ∙ h)
 
-        -- ---- a delete
-        module _ (w : Bool) (f : w ≡ savable name) (y : w ≡ true) where
-          pub delete-missing : s .named ≡ false → Amended (deleted 16 d name) d d 18
-          unfolding lineOf
-          delete-missing h = refuses d NotOnRoll (deleted-is ∙ rw (← f, y, reads .paged, last-not h) refl)
+      first-is : s .vacant ≡ true → firstOf (idle d) every ≡ some (s .room)
+      unfolding sightOf
+      first-is h = some-of (firstOf (idle d) every) (s .room) (ap (λ (t : Sight). t .room) seen-is) (sym (ap (λ (t : Sight). t .vacant) seen-is) ∙ h)
 
-          pub delete-there : (after : List ℕ) → Erased d (s .line) after → s .named ≡ true → Amended (deleted 16 d name) d after 0
-          unfolding lineOf
-          delete-there after g h = accepts d after (deleted-is ∙ rw (← f, y, reads .paged, last-is h) (g .is))
+      first-not : s .vacant ≡ false → firstOf (idle d) every ≡ none
+      unfolding sightOf
+      first-not h = none-of (firstOf (idle d) every) (sym (ap (λ (t : Sight). t .vacant) seen-is) ∙ h)
 
-        pub erase-this : s .named ≡ true → Erasable d (s .line)
-        unfolding lineHolds
-        erase-this h =
-            let l = last-split (bears d name) every (s .line) (last-is h) in
-            let p = parts-of 16 d d reads (l .0) (s .line) (l .1) (l .2) in
-            let t : inUse d (s .line) ≡ true = both-true (inUse d (s .line)) _ (l .4) .0 in
-            record {
-              size = tidy-long;
-              fits = line-fits 16 (omega arith) d tidy-long reads (l .0) (s .line) (l .1) (l .2);
-              places = p .u;
-              is = sym (rw t refl) ∙ p .holdsX;
-            }
+      any-is : any (holdsName name) (reads .ls) ≡ any (bears d name) every
+      any-is = each-any 16 d (holdsName name) (bears d name) (line-name 16 d name) every (reads .ls) (reads .files)
 
-        -- ---- a save
-        module _ (w : Bool) (f : w ≡ savable name) (y : w ≡ true) (address : ℕ) (bytes : List ℕ) where
-          saved-is : saved 16 d name address bytes
-              ≡ (require (savable name) UnwritableName >> require (not (any (holdsName name) (reads .ls))) NameTaken >> stored 16 d name address bytes)
-          saved-is = save-is 16 d reads (reading-tidy 16 d reads) name address bytes
+      any-true : s .named ≡ true → any (holdsName name) (reads .ls) ≡ true
+      any-true h =
+          let l = last-split (bears d name) every (s .line) (last-is h) in
+          any-is ∙ ap (any (bears d name)) (l .2) ∙ any-here (bears d name) (l .0) (s .line) (l .1) (l .4)
 
-          any-is : any (holdsName name) (reads .ls) ≡ any (bears d name) every
-          any-is = each-any 16 d (holdsName name) (bears d name) (line-name 16 d name) every (reads .ls) (reads .files)
+      any-false : s .named ≡ false → any (holdsName name) (reads .ls) ≡ false
+      any-false h = any-is ∙ last-none (bears d name) every (last-not h)
 
-          pub save-taken : s .named ≡ true → Amended (saved 16 d name address bytes) d d 22
-          save-taken h =
-              let l = last-split (bears d name) every (s .line) (last-is h) in
-              let q : any (holdsName name) (reads .ls) ≡ true = any-is ∙ ap (any (bears d name)) (l .2) ∙ any-here (bears d name) (l .0) (s .line) (l .1) (l .4) in
-              refuses d NameTaken (saved-is ∙ rw (← f, y, q) refl)
+      pub erase-this : s .named ≡ true → Erasable d (s .line)
+      unfolding lineHolds
+      erase-this h =
+          let l = last-split (bears d name) every (s .line) (last-is h) in
+          let p = parts-of 16 d d reads (l .0) (s .line) (l .1) (l .2) in
+          let t : inUse d (s .line) ≡ true = both-true (inUse d (s .line)) _ (l .4) .0 in
+          record {
+            size = tidy-long;
+            fits = line-fits 16 (omega arith) d tidy-long reads (l .0) (s .line) (l .1) (l .2);
+            places = p .u;
+            is = sym (rw t refl) ∙ p .holdsX;
+          }
 
-          module _ (h : s .named ≡ false) where
-            new-is : saved 16 d name address bytes ≡ stored 16 d name address bytes
-            new-is =
-                let q : any (holdsName name) (reads .ls) ≡ false = any-is ∙ last-none (bears d name) every (last-not h) in
-                saved-is ∙ rw (← f, y, q) refl
+      -- ---- a delete
+      pub delete-missing : s .named ≡ false → Amended (deletedBy 16 d a name) d d 18
+      unfolding lineOf
+      delete-missing h = refuses d NotOnRoll (deleted-is ∙ rw (reads .paged, last-not h) refl)
 
-            pub save-long : 32768 < length bytes → Amended (saved 16 d name address bytes) d d 21
-            save-long l = refuses d NoSpace (new-is ∙ rw (lt-leb (length bytes) 32768 l) refl)
+      pub delete-there : (after : List ℕ) → Erased d (s .line) after → s .named ≡ true → Amended (deletedBy 16 d a name) d after 0
+      unfolding lineOf
+      delete-there after x h = accepts d after (deleted-is ∙ rw (reads .paged, last-is h) (x .is))
 
-            pub save-full : length bytes ≤ 32768 → s .vacant ≡ false → Amended (saved 16 d name address bytes) d d 21
-            unfolding openLine
-            save-full l v = refuses d NoSpace (new-is ∙ rw (le-leb (length bytes) 32768 l, reads .paged, first-not v) refl)
+      -- ---- a save
+      pub save-seated : Seated d name s
+      unfolding openLine
+      save-seated =
+          record {
+            size = tidy-long;
+            named = allowed-parts d a name (has .0) (has .1) .1;
+            full = λ v. rw (reads .paged, first-not v) refl;
+            room = λ v.
+                let g = first-split (idle d) every (s .room) (first-is v) in
+                (rw (reads .paged, first-is v) refl, line-fits 16 (omega arith) d tidy-long reads (g .0) (s .room) (g .1) (g .2));
+          }
 
-            pub save-stored : (after : List ℕ) (r : ℕ) → Amended (savedAt 16 d (s .room) name address bytes) d after r → length bytes ≤ 32768 → s .vacant ≡ true
-                → Amended (saved 16 d name address bytes) d after r
-            unfolding openLine
-            save-stored after r a l v = same-call (new-is ∙ rw (le-leb (length bytes) 32768 l, reads .paged, first-is v) refl) a
+      module _ (address : ℕ) (bytes : List ℕ) where
+        pub save-taken : s .named ≡ true → Amended (savedBy 16 d a name address bytes) d d 22
+        save-taken h = refuses d NameTaken (saved-is address bytes ∙ rw (any-true h) refl)
 
-          pub save-storable : length bytes ≤ 32768 → s .vacant ≡ true → Storable d (s .room) name bytes
-          save-storable l v =
-              let g = first-split (idle d) every (s .room) (first-is v) in
-              record {
-                size = tidy-long;
-                fits = line-fits 16 (omega arith) d tidy-long reads (g .0) (s .room) (g .1) (g .2);
-                named = sym f ∙ y;
-                short = l;
-              }
+        module _ (h : s .named ≡ false) (o : Bool) (l : o ≡ overLimit d a (length bytes)) where
+          pub save-over : o ≡ true → Amended (savedBy 16 d a name address bytes) d d 24
+          save-over t = refuses d OverLimit (saved-is address bytes ∙ rw (any-false h, ← l, t) refl)
 
-      pub save-unwritable : (w : Bool) (address : ℕ) (bytes : List ℕ) → w ≡ savable name → w ≡ false → Amended (saved 16 d name address bytes) d d 14
-      save-unwritable w address bytes f h =
-          refuses d UnwritableName (save-is 16 d reads (reading-tidy 16 d reads) name address bytes ∙ rw (← f, h) refl)
+          pub save-settled : (after : List ℕ) (r : ℕ) → Amended (stored 16 d name address bytes) d after r → o ≡ false
+              → Amended (savedBy 16 d a name address bytes) d after r
+          save-settled after r b t = same-call (saved-is address bytes ∙ rw (any-false h, ← l, t) refl) b
 
-pub ruleset deletes = (delete-refused, tidy-long, tidy-paged, delete-unwritable, delete-missing, delete-there, erase-this, not-true, not-false, needs)
+-- ---- the end of a save
+module _ (d name : List ℕ) (s : Sight) (h : Seated d name s) (address : ℕ) (bytes : List ℕ) where
+  pub settle-long : 32768 < length bytes → Amended (stored 16 d name address bytes) d d 21
+  settle-long k = refuses d NoSpace (rw (lt-leb (length bytes) 32768 k) refl)
 
-pub ruleset saves = (save-refused, tidy-long, tidy-paged, save-unwritable, save-taken, save-long, save-full, save-stored, save-storable, not-true, not-false, needs)
+  module _ (k : length bytes ≤ 32768) where
+    pub settle-full : s .vacant ≡ false → Amended (stored 16 d name address bytes) d d 21
+    settle-full v = refuses d NoSpace (rw (le-leb (length bytes) 32768 k, h .full v) refl)
+
+    pub settle-storable : s .vacant ≡ true → Storable d (s .room) name bytes
+    settle-storable v = record { size = h .size; fits = h .room v .1; named = h .named; short = k }
+
+    pub settle-stored : (after : List ℕ) (r : ℕ) → Amended (savedAt 16 d (s .room) name address bytes) d after r → s .vacant ≡ true
+        → Amended (stored 16 d name address bytes) d after r
+    settle-stored after r b v = same-call (rw (le-leb (length bytes) 32768 k, h .room v .0) refl) b
+
+pub ruleset settles = (settle-long, settle-full, settle-storable, settle-stored, not-true, not-false, needs)
+
+-- ---- who asks
+pub may-all : (a : Asker) (name : List ℕ) → a .sided ≡ false → true ≡ mayName a name
+may-all a name h = rw h refl
+
+pub may-own : (a : Asker) (name : List ℕ) (r : Bool) (s : Side) → r ≡ belongs s name → s ≡ a .side → a .sided ≡ true → r ≡ mayName a name
+may-own a name r s e f h = rw h (e ∙ ap (λ (t : Side). belongs t name) f)
+
+pub over-none : (d : List ℕ) (a : Asker) (k : ℕ) → a .sided ≡ false → false ≡ overLimit d a k
+over-none d a k h = rw h refl
+
+pub over-side : (d : List ℕ) (a : Asker) (k m l c : ℕ) (s : Side) → c ≡ tally 16 d s → m ≡ dataFor k → l ≡ listsFor m → s ≡ a .side → a .sided ≡ true
+    → ltb (a .limit) (c + (l + m)) ≡ overLimit d a k
+over-side d a k m l c s e f g q h =
+    rw h (λ i. ltb (a .limit) ((e ∙ ap (tally 16 d) q) i + ((g ∙ ap listsFor f) i + f i)))
+
+-- ---- the calls of Req 09 and Req 10 are these
+-- the tests of a save and a delete in one row, and cut after the name's
+module _ (o : Outcome Contents) (w v : Bool) where
+  abbrev front : Outcome Contents
+  front = o >>= λ c. require w UnwritableName >> require v OtherSide >> given c
+
+  row-saves : (t : Contents → Bool) (l : Outcome (Unit {0})) (e : Outcome (List ℕ))
+      → (o >>= λ c. require w UnwritableName >> require v OtherSide >> require (t c) NameTaken >> l >> e) ≡ (front >>= λ c. require (t c) NameTaken >> l >> e)
+  row-saves t l e = go o w v
+    where
+      go : (o : Outcome Contents) (w v : Bool)
+          → (o >>= λ c. require w UnwritableName >> require v OtherSide >> require (t c) NameTaken >> l >> e)
+          ≡ ((o >>= λ c. require w UnwritableName >> require v OtherSide >> given c) >>= λ c. require (t c) NameTaken >> l >> e)
+      go (refused r) w v = refl
+      go (given c) false v = refl
+      go (given c) true false = refl
+      go (given c) true true = refl
+
+  row-deletes : (e : Outcome (List ℕ)) → (o >> require w UnwritableName >> require v OtherSide >> e) ≡ (front >> e)
+  row-deletes e = go o w v
+    where
+      go : (o : Outcome Contents) (w v : Bool)
+          → (o >> require w UnwritableName >> require v OtherSide >> e) ≡ ((o >>= λ c. require w UnwritableName >> require v OtherSide >> given c) >> e)
+      go (refused r) w v = refl
+      go (given c) false v = refl
+      go (given c) true false = refl
+      go (given c) true true = refl
+
+module _ (d name : List ℕ) where
+  -- without a side its tests fall away
+  no-side-saves : (address : ℕ) (bytes : List ℕ) → saved 16 d name address bytes ≡ savedBy 16 d noSide name address bytes
+  unfolding savedBy saved allowed
+  no-side-saves address bytes = go (tidy 16 d)
+    where
+      steps : (w t : Bool) (o : Outcome (List ℕ))
+          → require w UnwritableName >> require t NameTaken >> o ≡ require w UnwritableName >> require true OtherSide >> require t NameTaken >> roomFor 16 d noSide (length bytes) >> o
+      steps false t o = refl
+      steps true false o = refl
+      steps true true o = refl
+
+      go : (o : Outcome Contents)
+          → (o >>= λ c. require (savable name) UnwritableName >> require (isNew c name) NameTaken >> stored 16 d name address bytes)
+          ≡ ((o >>= λ c. require (savable name) UnwritableName >> require true OtherSide >> given c)
+          >>= λ c. require (isNew c name) NameTaken >> roomFor 16 d noSide (length bytes) >> stored 16 d name address bytes)
+      go (refused r) = refl
+      go (given c) =
+          steps (savable name) (isNew c name) (stored 16 d name address bytes)
+          ∙ row-saves (given c) (savable name) true (λ x. isNew x name) (roomFor 16 d noSide (length bytes)) (stored 16 d name address bytes)
+
+  no-side-deletes : deleted 16 d name ≡ deletedBy 16 d noSide name
+  unfolding deletedBy deleted allowed
+  no-side-deletes = go (tidy 16 d) (savable name) ∙ row-deletes (tidy 16 d) (savable name) true (removed 16 d name)
+    where
+      go : (o : Outcome Contents) (w : Bool) → (o >> require w UnwritableName >> removed 16 d name) ≡ (o >> require w UnwritableName >> require true OtherSide >> removed 16 d name)
+      go (refused r) w = refl
+      go (given c) false = refl
+      go (given c) true = refl
+
+  module _ (a : Asker) (after : List ℕ) (r : ℕ) where
+    pub no-side-saved : (address : ℕ) (bytes : List ℕ) → Amended (savedBy 16 d a name address bytes) d after r → a ≡ noSide → Amended (saved 16 d name address bytes) d after r
+    no-side-saved address bytes h e = same-call (no-side-saves address bytes ∙ ap (λ (b : Asker). savedBy 16 d b name address bytes) (sym e)) h
+
+    pub no-side-deleted : Amended (deletedBy 16 d a name) d after r → a ≡ noSide → Amended (deleted 16 d name) d after r
+    no-side-deleted h e = same-call (no-side-deletes ∙ ap (λ (b : Asker). deletedBy 16 d b name) (sym e)) h
+
+    pub one-side-saved : (s : Side) (limit address : ℕ) (bytes : List ℕ) → Amended (savedBy 16 d a name address bytes) d after r → a ≡ oneSide s limit
+        → Amended (savedFor 16 d s limit name address bytes) d after r
+    unfolding savedBy savedFor allowed
+    one-side-saved s limit address bytes h e =
+        same-call
+        (row-saves (tidy 16 d) (savable name) (belongs s name) (λ c. isNew c name) (within 16 d s limit (length bytes)) (stored 16 d name address bytes)
+        ∙ ap (λ (b : Asker). savedBy 16 d b name address bytes) (sym e)) h
+
+    pub one-side-deleted : (s : Side) (limit : ℕ) → Amended (deletedBy 16 d a name) d after r → a ≡ oneSide s limit → Amended (deletedFor 16 d s limit name) d after r
+    unfolding deletedBy deletedFor allowed
+    one-side-deleted s limit h e =
+        same-call (row-deletes (tidy 16 d) (savable name) (belongs s name) (removed 16 d name) ∙ ap (λ (b : Asker). deletedBy 16 d b name) (sym e)) h
+
+pub ruleset askers = (may-all, may-own, over-none, over-side, no-side-saved, one-side-saved, no-side-deleted, one-side-deleted, not-true, not-false, needs)
+
+pub ruleset deletes = (delete-refused, tidy-long, tidy-paged, delete-missing, delete-there, erase-this, not-true, not-false, needs)
+
+pub ruleset saves = (save-refused, tidy-long, tidy-paged, save-taken, save-over, save-settled, save-seated, not-true, not-false, needs)
 
 -- ---- a line deleted
 module _ (d : List ℕ) (x : ℕ) (h : Erasable d x) where

@@ -1,2 +1,3 @@
 pub mod Saving
 pub mod Steps
+pub mod Askers

@@ -6,7 +6,8 @@ use mathlib.Core.Option.{Option, none, some}
 use Prim.Native.Nat.{ℕ, zero, suc, _+_, _*_, _≤_}
 use lib.ListN.{length, replicate}
 use Rattle.lists.specs.Fill.{placed}
-use Rattle.outcome.specs.Outcome.{given}
+use Rattle.outcome.specs.declared.Refusal.the-variants.{NoSpace}
+use Rattle.outcome.specs.Outcome.{refused, given}
 use Rattle.disk.specs.declared.Place.{Place}
 use Rattle.disk.specs.Disk.{start, bytesOf}
 use Rattle.disk.specs.Vtoc.{vtoc}
@@ -14,7 +15,7 @@ use Rattle.catalog.specs.Catalog.{entryFrom, pages}
 use Rattle.files.specs.Contents.{listWalk}
 use Rattle.records.specs.Records.{entryRecord}
 use Rattle.holders.specs.Holders.{withPairs, sectorsOf}
-use Rattle.amend.specs.Lines.{firstOf, lastOf, savable, isNamed, inUse, starts}
+use Rattle.amend.specs.Lines.{firstOf, lastOf, savable, isNamed, inUse, starts, openLine}
 use Rattle.amend.specs.Save.{dataFor, listsFor, deletedAt}
 use Rattle.allot.specs.Table.{markOn}
 use Rattle.filing.specs.Filing.{placeIn, filed}
@@ -121,6 +122,13 @@ pub record Erasable (d : List ℕ) (x : ℕ) : Type 0 where
 -- it was deleted
 pub record Erased (d : List ℕ) (x : ℕ) (after : List ℕ) : Type 0 where
   pub is : deletedAt 16 d x ≡ given after
+
+-- the lines were looked along for a file of the name: the line that it will fill, or 21
+pub record Seated (d name : List ℕ) (s : Sight) : Type 0 where
+  pub size : length d ≡ 143360
+  pub named : savable name ≡ true
+  pub full : s .vacant ≡ false → openLine 16 d ≡ refused NoSpace
+  pub room : s .vacant ≡ true → (openLine 16 d ≡ given (s .room)) × (s .room + 35 ≤ length d)
 
 -- a file can be stored in the line from x on, as far as sectors are found
 pub record Storable (d : List ℕ) (x : ℕ) (name bytes : List ℕ) : Type 0 where

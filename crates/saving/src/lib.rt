@@ -1,4 +1,4 @@
-// Saving and deleting on a flat disk: Req 09. Not of the Rust.
+// Saving and deleting on a flat disk: Req 09, and by two sides with a limit each: Req 10. Not of the Rust.
 ghost use mathlib.Core.Path.{_≡_};
 ghost use mathlib.Core.Bool.{true, false};
 ghost use Prim.Native.Nat.{_+_, _≤_};
@@ -7,9 +7,11 @@ ghost use Rattle.outcome.specs.Outcome.{number};
 ghost use Rattle.lists.specs.Select.{among};
 ghost use Rattle.files.specs.Contents.{pairsOf};
 ghost use Rattle.amend.specs.Lines.{savable, tidy};
-ghost use Rattle.amend.specs.Save.{dataFor, listsFor, savedAt, saved, deleted};
+ghost use Rattle.amend.specs.Save.{dataFor, listsFor, savedAt, stored, saved, deleted};
+ghost use Rattle.sides.specs.Sides.{savedFor, deletedFor};
 ghost use Rattle.saving.specs.Saving.{Amended};
-ghost use Rattle.saving.specs.Steps.{LineSeen, PageSeen, Seen, Paged, PairsFreed, ListFreed, Linked, ListsFreed, Copied, Erasable, Erased, Storable, EntryPut, FilePut};
+ghost use Rattle.saving.specs.Askers.{noSide, oneSide, mayName, overLimit, allowed, savedBy, deletedBy};
+ghost use Rattle.saving.specs.Steps.{LineSeen, PageSeen, Seen, Paged, PairsFreed, ListFreed, Linked, ListsFreed, Copied, Erasable, Erased, Seated, Storable, EntryPut, FilePut};
 use allot::mark_sector;
 use allot::take_sectors;
 use catalog::entry_list;
@@ -36,9 +38,14 @@ use outcome::NO_SPACE;
 use outcome::NOT_CLEAN;
 use outcome::NOT_ON_ROLL;
 use outcome::OFF_SIZE;
+use outcome::OTHER_SIDE;
+use outcome::OVER_LIMIT;
 use outcome::UNWRITABLE_NAME;
 use records::file_entry_as_vec;
 use records::writable_name;
+use sides::Side;
+use sides::belongs_to;
+use sides::count_held;
 
 // What a look along the lines has found: the last line of a name, and the first that is not in use.
 struct Sight {
@@ -46,6 +53,46 @@ struct Sight {
     line: usize,
     vacant: bool,
     room: usize,
+}
+
+// Who asks for a save or a delete: a side with its limit; or no side, to whom every name is allowed and no limit is set.
+struct Asker {
+    sided: bool,
+    side: Side,
+    limit: u64,
+}
+
+// No side asks.
+fn no_side() -> Asker
+    ensures { λ r. ⌜ r ≡ noSide ⌝ }
+{
+    Asker {
+        sided: false,
+        side: Side::Ours,
+        limit: 0,
+    }
+}
+
+// A side asks, with its limit.
+fn one_side(side: Side, limit: u64) -> Asker
+    ensures { λ r. ⌜ r ≡ oneSide side limit ⌝ }
+{
+    Asker {
+        sided: true,
+        side: side,
+        limit: limit,
+    }
+}
+
+// The name is not the other side's, where a side asks.
+fn may_name(asker: Asker, name: &[u8]) -> bool
+    ensures { λ r. ⌜ r ≡ mayName asker (now (name .entry)) ⌝ }
+{
+    if !asker.sided {
+        return true;
+    }
+    let side = asker.side;
+    belongs_to(side, name)
 }
 
 // Why a disk is not amended: 1 to 6, 20; 0 where it is. A disk of 13 sectors a track is 1.
@@ -228,9 +275,9 @@ fn erase(disk: &mut [u8], x: usize)
     copy_at(&old, disk, x + 32);
 }
 
-// Deletes the last entry of the name, locked or not; refusals 1 to 6, 20, 14, 18.
-pub fn delete(disk: &mut [u8], name: &[u8]) -> u8
-    ensures { λ r. ⌜ Amended (deleted 16 (now (disk .entry)) (now (name .entry))) (now (disk .entry)) (now (disk .exit)) r ⌝ }
+// The refusals that a save and a delete begin with: 1 to 6, 20, 14, and 23 where a side asks; 0 where there is none.
+fn name_refusal(disk: &[u8], asker: Asker, name: &[u8]) -> u8
+    ensures { λ r. ⌜ r ≡ number (allowed 16 (now (disk .entry)) asker (now (name .entry))) ⌝ }
 {
     let number = tidy_refusal(disk);
     if number != 0 {
@@ -239,12 +286,40 @@ pub fn delete(disk: &mut [u8], name: &[u8]) -> u8
     if !savable_name(name) {
         return UNWRITABLE_NAME;
     }
+    if !may_name(asker, name) {
+        return OTHER_SIDE;
+    }
+    0
+}
+
+// Deletes the last entry of the name, locked or not; refusals 1 to 6, 20, 14, 23 where a side asks, 18.
+fn delete_by(disk: &mut [u8], asker: Asker, name: &[u8]) -> u8
+    ensures { λ r. ⌜ Amended (deletedBy 16 (now (disk .entry)) asker (now (name .entry))) (now (disk .entry)) (now (disk .exit)) r ⌝ }
+{
+    let number = name_refusal(disk, asker, name);
+    if number != 0 {
+        return number;
+    }
     let s = look(disk, name);
     if !s.named {
         return NOT_ON_ROLL;
     }
     erase(disk, s.line);
     0
+}
+
+// Deletes the last entry of the name, locked or not: Req 09; refusals 1 to 6, 20, 14, 18.
+pub fn delete(disk: &mut [u8], name: &[u8]) -> u8
+    ensures { λ r. ⌜ Amended (deleted 16 (now (disk .entry)) (now (name .entry))) (now (disk .entry)) (now (disk .exit)) r ⌝ }
+{
+    delete_by(disk, no_side(), name)
+}
+
+// .. for a side: Req 10; refusals 1 to 6, 20, 14, 23, 18. Its limit is not looked at.
+pub fn delete_for(disk: &mut [u8], side: Side, limit: u64, name: &[u8]) -> u8
+    ensures { λ r. ⌜ Amended (deletedFor 16 (now (disk .entry)) side limit (now (name .entry))) (now (disk .entry)) (now (disk .exit)) r ⌝ }
+{
+    delete_by(disk, one_side(side, limit), name)
 }
 
 // Data sectors for k bytes: address and length stand before them.
@@ -309,21 +384,11 @@ fn store(disk: &mut [u8], x: usize, name: &[u8], address: u16, data: &[u8]) -> u
     0
 }
 
-// Saves a Binary file, unlocked; refusals 1 to 6, 20, 14, 22, 21.
-pub fn save(disk: &mut [u8], name: &[u8], address: u16, data: &[u8]) -> u8
-    ensures { λ r. ⌜ Amended (saved 16 (now (disk .entry)) (now (name .entry)) address (now («data» .entry))) (now (disk .entry)) (now (disk .exit)) r ⌝ }
+// The end of a save, the lines having been looked along: refusal 21 for data over 32,768, for the lines, for the sectors.
+fn settle(disk: &mut [u8], s: Sight, name: &[u8], address: u16, data: &[u8]) -> u8
+    requires { ⌜ Seated (now disk) (now name) s ⌝ }
+    ensures { λ r. ⌜ Amended (stored 16 (now (disk .entry)) (now (name .entry)) address (now («data» .entry))) (now (disk .entry)) (now (disk .exit)) r ⌝ }
 {
-    let number = tidy_refusal(disk);
-    if number != 0 {
-        return number;
-    }
-    if !savable_name(name) {
-        return UNWRITABLE_NAME;
-    }
-    let s = look(disk, name);
-    if s.named {
-        return NAME_TAKEN;
-    }
     if 32768 < data.len() {
         return NO_SPACE;
     }
@@ -331,4 +396,55 @@ pub fn save(disk: &mut [u8], name: &[u8], address: u16, data: &[u8]) -> u8
         return NO_SPACE;
     }
     store(disk, s.room, name, address, data)
+}
+
+// Whether a file of k bytes more is over the limit of the side that asks.
+fn over_limit(disk: &[u8], asker: Asker, k: usize) -> bool
+    ensures { λ r. ⌜ r ≡ overLimit (now (disk .entry)) asker k ⌝ }
+{
+    if !asker.sided {
+        return false;
+    }
+    let side = asker.side;
+    let m = data_for(k);
+    asker.limit < count_held(disk, 16, side) + (lists_for(m) + m) as u64
+}
+
+// Saves a Binary file, unlocked; refusals 1 to 6, 20, 14, 23 where a side asks, 22, 24 where one does, 21.
+fn save_by(disk: &mut [u8], asker: Asker, name: &[u8], address: u16, data: &[u8]) -> u8
+    ensures { λ r. ⌜ Amended (savedBy 16 (now (disk .entry)) asker (now (name .entry)) address (now («data» .entry))) (now (disk .entry)) (now (disk .exit)) r ⌝ }
+{
+    let number = name_refusal(disk, asker, name);
+    if number != 0 {
+        return number;
+    }
+    let s = look(disk, name);
+    if s.named {
+        return NAME_TAKEN;
+    }
+    if over_limit(disk, asker, data.len()) {
+        return OVER_LIMIT;
+    }
+    settle(disk, s, name, address, data)
+}
+
+// Saves a Binary file, unlocked: Req 09; refusals 1 to 6, 20, 14, 22, 21.
+pub fn save(disk: &mut [u8], name: &[u8], address: u16, data: &[u8]) -> u8
+    ensures { λ r. ⌜ Amended (saved 16 (now (disk .entry)) (now (name .entry)) address (now («data» .entry))) (now (disk .entry)) (now (disk .exit)) r ⌝ }
+{
+    save_by(disk, no_side(), name, address, data)
+}
+
+// .. for a side, within its limit of sectors: Req 10; refusals 1 to 6, 20, 14, 23, 22, 24, 21.
+pub fn save_for(
+    disk: &mut [u8],
+    side: Side,
+    limit: u64,
+    name: &[u8],
+    address: u16,
+    data: &[u8],
+) -> u8
+    ensures { λ r. ⌜ Amended (savedFor 16 (now (disk .entry)) side limit (now (name .entry)) address (now («data» .entry))) (now (disk .entry)) (now (disk .exit)) r ⌝ }
+{
+    save_by(disk, one_side(side, limit), name, address, data)
 }

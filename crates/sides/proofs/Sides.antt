@@ -22,6 +22,7 @@ use Rattle.sides.proofs.Steps.{reading-of}
 use Rattle.sides.proofs.Runs.{stays-run, keeps-is, limits-is}
 use Rattle.sides.proofs.Alike.{op-alike, same-own}
 use Rattle.sides.proofs.Always.{always-is, twin-clean}
+use Rattle.sides.proofs.Counts.{counted}
 
 -- ---- otherwise a save or delete of Req 09
 module _ (n : ℕ) (d : List ℕ) (s : Side) (limit : ℕ) where
@@ -123,6 +124,7 @@ sides-of n some′ few =
     record {
       served = λ d c. op-served n d (c .side) (c .limit) (c .op);
       otherwise = λ d c. op-otherwise n d (c .side) (c .limit) (c .op);
+      counted = counted n;
       stays = λ d c cs b. stays-run n some′ few cs d c b;
       keeps = keeps-is n some′ few;
       limits = limits-is n some′ few;

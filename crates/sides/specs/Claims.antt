@@ -16,6 +16,7 @@ use Rattle.amend.specs.Lines.{isNamed, starts}
 use Rattle.amend.specs.Amending.{Op, OfBytes, amend, kept, Clean}
 use Rattle.amend.specs.Amending
 use Rattle.sides.specs.declared.Side.{Side}
+use Rattle.sides.specs.Steps.{tally}
 use Rattle.sides.specs.Sides.{other, belongs, ofSide, within, ownLines, ownEntries, ownSectors, heldBy, Call, answer, runFor}
 
 -- what is asked for is bytes
@@ -89,6 +90,8 @@ pub record SidesOf (n : ℕ) : Type 0 where
   -- a call under a name of its own, with room, is the save or delete of Req 09; and so is every call that is not refused as 23 or 24
   pub served : (d : List ℕ) (c : Call) → belongs (c .side) (nameOf (c .op)) ≡ true → Room n d (c .side) (c .limit) (c .op) → answer n d c ≡ amend n d (c .op)
   pub otherwise : (d : List ℕ) (c : Call) → (number (answer n d c) ≡ 23 → ⊥) → (number (answer n d c) ≡ 24 → ⊥) → answer n d c ≡ amend n d (c .op)
+  -- what the code counts page by page is what a side holds, on every disk whose lists can be followed
+  pub counted : (d : List ℕ) (s : Side) (m : ℕ) → heldBy n d s ≡ given m → tally n d s ≡ m
   -- calls of both sides leave a clean disk clean
   pub stays : (d : List ℕ) → Clean n d → (cs : List Call) → Every BytesIn cs → Clean n (runFor n d cs)
   -- 1. no list of calls by one side changes a byte of the other's files, or an entry line in use by the other; on a disk that is not clean all are refused
