@@ -17,7 +17,7 @@ use Rattle.amend.specs.Lines.{starts, tidy}
 use Rattle.amend.proofs.Reading.{given-same}
 use Rattle.saving.specs.Steps.{idle, Paged, Copied}
 use Rattle.saving.proofs.Freeing.{vtoc-long, copy-is}
-use Rattle.saving.proofs.Calls.{tidy-long, tidy-paged}
+use Rattle.saving.proofs.Calls.{tidy-size, tidy-pages}
 use Rattle.forecast.specs.Forecast.{ahead, openLines, forecast, numbersIn, forecastNumbers}
 use Rattle.forecast.specs.Steps.{Counted, HasTable, Plan, Foreseen, Prepared, AllTold}
 use Rattle.forecast.proofs.Ahead.{marks-many}
@@ -25,7 +25,7 @@ use Rattle.forecast.proofs.Ahead.{marks-many}
 -- ---- on a clean disk
 module _ (d ks : List ℕ) (clean : number (tidy 16 d) ≡ 0) (few : length ks ≤ 64) where
   paged : Paged d
-  paged = tidy-paged d 0 (sym clean) refl
+  paged = let t = number-0 (tidy 16 d) clean in tidy-pages d (t .0) (t .1)
 
   -- the numbers, so many lines being left
   told : (left : ℕ) → Counted d left → forecastNumbers d ks ≡ given (numbersIn (ahead 16 left d ks))
@@ -46,7 +46,7 @@ module _ (d ks : List ℕ) (clean : number (tidy 16 d) ≡ 0) (few : length ks �
 
 module _ (d ks N : List ℕ) (y : Prepared d ks N) where
   size : length d ≡ 143360
-  size = tidy-long d 0 (sym (y .clean)) refl
+  size = let t = number-0 (tidy 16 d) (y .clean) in tidy-size d (t .0) (t .1)
 
   pub told-paged : Paged d
   told-paged = paged d ks (y .clean) (y .few)

@@ -80,6 +80,17 @@ accepts d e q = record { is = sym (ap number q); disk = sym (ap (kept d) q) }
 same-call : {o p : Outcome (List ℕ)} {d after : List ℕ} {r : ℕ} → o ≡ p → Amended p d after r → Amended o d after r
 same-call {o} {p} {d} e a = record { is = a .is ∙ sym (ap number e); disk = a .disk ∙ sym (ap (kept d) e) }
 
+-- ---- a disk that is read, and is clean
+module _ (d : List ℕ) (c : Contents) (h : tidy 16 d ≡ given c) where
+  reading : Reading 16 d
+  reading = tidy-reading 16 d c h .0
+
+  pub tidy-size : length d ≡ 143360
+  tidy-size = contents-size 16 d c (tidy-given 16 d c h .1)
+
+  pub tidy-pages : Paged d
+  tidy-pages = record { places = reading .ps; is = reading .paged }
+
 -- ---- what both calls begin with
 module _ (d : List ℕ) (a : Asker) (name : List ℕ) where
   pub allow-refused : (n : ℕ) → n ≡ number (tidy 16 d) → (n ≡ 0 → ⊥) → n ≡ number (allowed 16 d a name)
@@ -157,13 +168,13 @@ module _ (d : List ℕ) (a : Asker) (name : List ℕ) (n : ℕ) (e : n ≡ numbe
     tidied = allowed-parts d a name (has .0) (has .1) .0
 
     reads : Reading 16 d
-    reads = tidy-reading 16 d (has .0) tidied .0
+    reads = reading d (has .0) tidied
 
     pub tidy-long : length d ≡ 143360
-    tidy-long = contents-size 16 d (has .0) (tidy-given 16 d (has .0) tidied .1)
+    tidy-long = tidy-size d (has .0) tidied
 
     pub tidy-paged : Paged d
-    tidy-paged = record { places = reads .ps; is = reads .paged }
+    tidy-paged = tidy-pages d (has .0) tidied
 
     -- the name is new by the contents where it is by the lines
     new-is : isNew (has .0) name ≡ not (any (holdsName name) (reads .ls))
