@@ -5,3 +5,4 @@ pub mod Looks
 pub mod Freeing
 pub mod Calls
 pub mod Calling
+pub mod Serving

@@ -1,3 +1,4 @@
 pub mod Saving
 pub mod Steps
 pub mod Askers
+pub mod Serving
