@@ -180,7 +180,9 @@ fn limits() {
                 save_refused(&d, side, enough - 1, name, &file, 24);
                 let mut due = d.clone();
                 assert_eq!(save(&mut due, name, 0x2000, &file), 0);
-                for limit in [enough, enough + 1, u64::MAX - 1, u64::MAX] {
+                // Also limits whose low bytes are zero.
+                let far = [256, 1 << 16, 1 << 32, 1 << 63, u64::MAX];
+                for limit in [enough, enough + 1].into_iter().chain(far) {
                     let mut e = d.clone();
                     assert_eq!(save_for(&mut e, side, limit, name, &file), 0);
                     assert!(e == due);
