@@ -2,7 +2,7 @@
 // and, byte for byte, to its claims.
 mod common;
 use common::by_words::{at, belongs, data_of, held, in_use, lines, lists, mark, own_lines};
-use common::by_words::{own_sectors, sectors_for, Place, VTOC};
+use common::by_words::{own_sectors, sectors_for, shown, Place, VTOC};
 use common::ops::{an_op_of, delete, save, Op};
 use common::to_save::{a_name, bytes, every_sector, formatted, odd_map, odd_search, only_free};
 use common::to_save::{start, with_files, BAD_NAMES, SIZES, TABLE};
@@ -480,8 +480,13 @@ impl Call {
     }
 }
 
-// A name that is most often the side's: for the survey office with an S before it. One of 30 letters loses its last.
-fn a_name_for(side: Side, dice: &mut Dice) -> Vec<u8> {
+// A name that is most often the side's: one that a line of it shows, or any, for the survey office with an S before it. One of 30 letters loses its last.
+fn a_name_for(d: &[u8], side: Side, dice: &mut Dice) -> Vec<u8> {
+    let own = own_lines(d, side == Side::Survey);
+    if !own.is_empty() && dice.roll(3) == 0 {
+        let line = own[dice.roll(own.len())];
+        return shown(&d[line + 3..line + 33]);
+    }
     let mut name = a_name(dice);
     if side == Side::Survey {
         name.insert(0, b'S');
@@ -492,9 +497,9 @@ fn a_name_for(side: Side, dice: &mut Dice) -> Vec<u8> {
     name
 }
 
-fn a_call(side: Side, limit: u64, dice: &mut Dice) -> Call {
+fn a_call(d: &[u8], side: Side, limit: u64, dice: &mut Dice) -> Call {
     let whose = if dice.roll(8) == 0 { other(side) } else { side };
-    let name = a_name_for(whose, dice);
+    let name = a_name_for(d, whose, dice);
     let op = an_op_of(name, dice);
     Call { side, limit, op }
 }
@@ -514,11 +519,11 @@ fn start_of_both(dice: &mut Dice) -> Vec<u8> {
 // Under what the side holds, just over it, far over it, none.
 fn a_limit(d: &[u8], side: Side, dice: &mut Dice) -> u64 {
     let holds = held_by(d, side) as usize;
-    match dice.roll(7) {
+    match dice.roll(9) {
         0 => dice.roll(holds + 1) as u64,
-        1..=3 => (holds + dice.roll(12)) as u64,
+        1..=3 => (holds + dice.roll(9)) as u64,
         4 => (holds + dice.roll(300)) as u64,
-        5 => 560,
+        5 | 6 => 560,
         _ => u64::MAX,
     }
 }
@@ -576,7 +581,8 @@ fn own_lines_last(d: &mut [u8], side: Side) {
 fn another_disk(d: &[u8], side: Side, dice: &mut Dice) -> Vec<u8> {
     let mut e = d.to_vec();
     for _ in 0..dice.roll(4) {
-        a_call(other(side), u64::MAX, dice).on(&mut e);
+        let call = a_call(&e, other(side), u64::MAX, dice);
+        call.on(&mut e);
     }
     if dice.roll(2) == 0 {
         own_lines_last(&mut e, side);
@@ -677,7 +683,7 @@ impl Met {
         for (seen, due) in self.answers.iter().flat_map(|of| of.iter().zip(due)) {
             for (number, n) in seen.iter().enumerate() {
                 let good = if due.contains(&number) {
-                    *n >= 30
+                    *n >= 25
                 } else {
                     *n == 0
                 };
@@ -685,7 +691,7 @@ impl Met {
             }
         }
         let others = [self.alike, self.excused, self.at_limit, self.beside_others];
-        assert!(others.into_iter().all(|n| n >= 30), "{others:?}");
+        assert!(others.into_iter().all(|n| n >= 25), "{others:?}");
     }
 }
 
@@ -699,7 +705,7 @@ fn sequence(dice: &mut Dice, met: &mut Met) {
     let callers = [&[0][..], &[1], &[0, 1]][dice.roll(3)];
     for _ in 0..1 + dice.roll(8) {
         let who = callers[dice.roll(callers.len())];
-        let call = a_call(SIDES[who], limits[who], dice);
+        let call = a_call(&d, SIDES[who], limits[who], dice);
         let answer = step(&mut d, &call, dice, met);
         met.note(&d, &call, answer);
         for k in [0, 1] {
@@ -719,7 +725,7 @@ fn not_clean_any_more(d: &mut Vec<u8>, dice: &mut Dice) {
     mark(d, held[dice.roll(held.len())], true);
     let before = d.clone();
     for side in SIDES {
-        let call = a_call(side, u64::MAX, dice);
+        let call = a_call(d, side, u64::MAX, dice);
         assert_eq!((call.on(d), call.by_words(d)), (20, 20));
         assert!(*d == before);
     }
