@@ -4,8 +4,8 @@
  *
  * A flat disk is 35 tracks of sectors of 256 bytes. Its length alone says how many a track has:
  * 143,360 bytes are 16 (DOS 3.3), 116,480 bytes are 13 (DOS 3.2). Every function that takes a flat
- * disk takes both; only dos33_nibblize, dos33_save, dos33_delete and dos33_forecast refuse 116,480
- * bytes, as 1.
+ * disk takes both; only dos33_nibblize, dos33_save, dos33_delete, dos33_save_for, dos33_delete_for
+ * and dos33_forecast refuse 116,480 bytes, as 1.
  * A nibble stream is read as the caller says: dos33_denibblize and dos33_sector go by the address
  * mark D5 AA 96 (h) and 6-and-2 coding, those with _13 by D5 AA B5 (h) and 5-and-3. A stream that
  * both can read stands for two disks. Which mark comes first: dos33_recognize_prologue.
@@ -14,8 +14,8 @@
  *   - each pointer is valid for its length, and not null, even where the length is 0;
  *   - `length` points to one uint64_t; the lengths of `lengths`, `fields` and `run` are in
  *     elements;
- *   - what is lent to be written (`out`, `length`, `fields`, `run`, and the `disk` of dos33_save and
- *     dos33_delete) overlaps nothing else that is lent.
+ *   - what is lent to be written (`out`, `length`, `fields`, `run`, and the `disk` of the saves and
+ *     deletes) overlaps nothing else that is lent.
  * There is no other: any bytes and any numbers may be handed in.
  *
  * The result is 0 for accepted, or the number of a refusal (below). Only
@@ -23,7 +23,7 @@
  *   - Under a refusal nothing lent changes.
  *   - Where a call is accepted, `out` receives the bytes and *length their number, `run` the pairs
  *     and *length their number, or `fields` its numbers in the order given. What lies past them
- *     keeps its content. dos33_save and dos33_delete change `disk` in place.
+ *     keeps its content. The saves and deletes change `disk` in place.
  * Each comment names the refusals in the order in which they are tested. A yes or no handed in is a
  * uint8_t: 0 is no, anything else is yes. A type is one of the codes below.
  *
@@ -34,7 +34,7 @@
  *   - Time: dos33_archive_entry goes through all of the archive, dos33_archive_step looks at one
  *     block. dos33_file, dos33_fetch and dos33_lists judge every file of the disk; for all files at
  *     once: dos33_archive_write, dos33_archive_open, then dos33_archive_step entry by entry.
- *     dos33_save, dos33_delete and dos33_forecast judge every file, and count the holders of every
+ *     The saves, the deletes and dos33_forecast judge every file, and count the holders of every
  *     sector, each time.
  *   - Time on streams: dos33_sector and dos33_sector_13 look for the first field of a key at each
  *     field with a wrong sum that repeats one. Where these are many, the time grows with the square
@@ -82,6 +82,8 @@ enum {
                                    or a held one is free in the map (dos33_holders) */
     DOS33_NO_SPACE = 21,        /* no sector or no entry line for a save, or data over 32,768 */
     DOS33_NAME_TAKEN = 22,      /* an entry shows the name to save */
+    DOS33_OTHER_SIDE = 23,      /* a name of the other side, on the disk or not */
+    DOS33_OVER_LIMIT = 24,      /* a side's sectors and its save's together over its limit */
     DOS33_PLAN_LONG = 25        /* over 64 lengths to forecast */
 };
 
@@ -96,6 +98,13 @@ enum {
     DOS33_A = 20,
     DOS33_B = 40,
     DOS33_UNKNOWN = 41
+};
+
+/* Sides. A name whose first byte, as it is shown, is S (53h) is the survey office's; every other is
+   ours. */
+enum {
+    DOS33_OURS = 0,
+    DOS33_SURVEY = 1 /* so is any other number but 0 */
 };
 
 /* Tracks of a disk, and sectors of a track; _13 is DOS 3.2. */
@@ -116,13 +125,13 @@ enum {
     DOS33_PAIR_RUN_MOST = 122,      /* pair_run, in pairs: bytes 12 to 255 of a list */
     DOS33_PAIRS_MOST = 2 * DOS33_PAIR_RUN_MOST, /* pairs, in bytes */
     DOS33_FILE_MOST = 65536,        /* file, fetch */
-    DOS33_SAVE_MOST = 32768,        /* the most bytes that save takes */
+    DOS33_SAVE_MOST = 32768,        /* the most bytes that save and save_for take */
     DOS33_PLAN_MOST = 64,           /* the most lengths that forecast takes */
     DOS33_ARCHIVE_MOST = 1048576,   /* archive_write: 256 * 4096 */
     DOS33_NIBBLES_SIZE = 343,       /* encode_sector: a sector in 6-and-2, and the sum */
     DOS33_NIBBLES_SIZE_13 = 411,    /* a sector in 5-and-3, and the sum; it is read, not written */
     DOS33_ENTRY_SIZE = 35,          /* entry_record */
-    DOS33_WORD_MOST = 15,           /* refusal_word */
+    DOS33_WORD_MOST = 17,           /* refusal_word */
     DOS33_VTOC_FIELDS = 13,
     DOS33_SURVEY_FIELDS = 7,
     DOS33_HOLDERS_FIELDS = 5,
@@ -219,6 +228,21 @@ uint8_t dos33_save(uint8_t *disk, size_t disk_length,
    byte 0 cannot be deleted so: 14. 1 (also for 116,480 bytes) to 6, 20, 14, 18. */
 uint8_t dos33_delete(uint8_t *disk, size_t disk_length,
                      const uint8_t *name, size_t name_length);
+
+/* As dos33_save, by a side, DOS33_OURS or DOS33_SURVEY. The name must be the side's own. `limit` is
+   how many sectors the side may hold: those of its files, lists and data, counted along their lists,
+   and those of this save must together not be over it; just as many are within it. The save's are told
+   by its length, whatever that is, so data over DOS33_SAVE_MOST bytes may be 24 before it is 21. No
+   byte of the other side's files changes, and no entry line in use by it.
+   1 (also for 116,480 bytes) to 6, 20, 14, 23, 22, 24, 21. */
+uint8_t dos33_save_for(uint8_t *disk, size_t disk_length, uint8_t side, uint64_t limit,
+                       const uint8_t *name, size_t name_length, uint16_t address,
+                       const uint8_t *data, size_t data_length);
+
+/* As dos33_delete, by a side. The name must be the side's own; `limit` is not looked at.
+   1 (also for 116,480 bytes) to 6, 20, 14, 23, 18. */
+uint8_t dos33_delete_for(uint8_t *disk, size_t disk_length, uint8_t side, uint64_t limit,
+                         const uint8_t *name, size_t name_length);
 
 /* What saves of these lengths (bytes of data), one after the other, will need, without writing. 3
    numbers and one for each length: data sectors, list sectors and entry lines needed in all, by the

@@ -1,4 +1,4 @@
-/* Saves, lists and deletes on an empty disk. From host/, with the library made:
+/* Saves, lists and deletes on an empty disk, also by two sides. From host/, with the library made:
        cc -I . examples/saving.c ../target/staticlib/libhost.a -o saving && ./saving
    With the name of a file it keeps the disk there. What it prints stands in saving.txt, and the tests hold it to that. */
 #include "dos33.h"
@@ -49,6 +49,15 @@ static void delete_file(const char *name) {
     tell("delete", name, dos33_delete(disk, sizeof disk, (const uint8_t *)name, strlen(name)));
 }
 
+/* By a side, with its limit of sectors. */
+static void save_for(uint8_t side, uint64_t limit, const char *name, size_t size) {
+    tell("save_for", name, dos33_save_for(disk, sizeof disk, side, limit, (const uint8_t *)name, strlen(name), 0x2000, data, size));
+}
+
+static void delete_for(uint8_t side, uint64_t limit, const char *name) {
+    tell("delete_for", name, dos33_delete_for(disk, sizeof disk, side, limit, (const uint8_t *)name, strlen(name)));
+}
+
 /* The entries: sectors, name, where the first list stands; then what is free, and whether the disk is clean. */
 static void list(void) {
     uint64_t length = 0, numbers[DOS33_VTOC_FIELDS] = {0}, holders[DOS33_HOLDERS_FIELDS] = {0}, k;
@@ -77,6 +86,14 @@ int main(int count, char **words) {
     delete_file("LINE 8");
     list();
     save("LINE 12", 0x6000, 1000);
+    list();
+    /* Names with S are the survey office's, which has 10 sectors here. */
+    save_for(DOS33_SURVEY, 10, "S 1", 1000);
+    save_for(DOS33_SURVEY, 10, "S 2", 1021);
+    save_for(DOS33_SURVEY, 10, "S 2", 1020);
+    save_for(DOS33_SURVEY, 10, "LINE 13", 1);
+    delete_for(DOS33_OURS, 100, "S 1");
+    delete_for(DOS33_OURS, 100, "LINE 9");
     list();
     if (count > 1) {
         FILE *file = fopen(words[1], "wb");

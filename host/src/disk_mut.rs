@@ -1,4 +1,4 @@
-use crate::{lend, raw, Disk, Refusal};
+use crate::{lend, raw, Disk, Refusal, Side};
 
 /// A flat disk to save to and to delete from. Its bytes are borrowed to be written, and changed in place; it
 /// has 16 sectors a track ([`DISK_SIZE`](crate::DISK_SIZE) bytes). It is read as a [`Disk`], whenever
@@ -103,5 +103,80 @@ impl<'a> DiskMut<'a> {
         let (d, n) = (self.bytes.as_mut_ptr(), self.bytes.len());
         // SAFETY: as in `save`.
         lend::accepted(unsafe { raw::dos33_delete(d, n, name.as_ptr(), name.len()) })
+    }
+
+    /// Saves as [`save`](DiskMut::save) does, for one of two sides that share the disk. The name must be the
+    /// side's own; [`Side`] says whose it is. `limit` is how many sectors the side may hold: those of its
+    /// files, lists and data, counted along the lists, and those of this save must together not be over it.
+    /// Just as many are within it.
+    ///
+    /// No call of a side changes a byte of the other's files, or an entry line in use by the other. A side
+    /// that is within its limit, and gives the same with each call, stays within it.
+    ///
+    /// ```
+    /// # use dos33::{DiskMut, Refusal, Side};
+    /// # let mut bytes = vec![0; dos33::DISK_SIZE];
+    /// # let vtoc = 17 * 4096;
+    /// # bytes[vtoc + 1..][..2].copy_from_slice(&[17, 15]);
+    /// # bytes[vtoc + 48..][..2].copy_from_slice(&[18, 1]);
+    /// # bytes[vtoc + 52..][..2].copy_from_slice(&[35, 16]);
+    /// # bytes[vtoc + 56 + 4 * 20..][..2].fill(0xFF);
+    /// let mut disk = DiskMut::flat(&mut bytes);
+    /// // Of the limit of 4 this takes 2, a list and a data sector. 253 bytes take 3, 252 take 2.
+    /// disk.save_for(Side::Survey, 4, "S 1", 0x2000, b"HELLO")?;
+    /// assert_eq!(disk.save_for(Side::Survey, 4, "S 2", 0, &[7; 253]), Err(Refusal::OverLimit));
+    /// disk.save_for(Side::Survey, 4, "S 2", 0, &[7; 252])?;
+    /// assert_eq!(disk.save_for(Side::Survey, 99, "LINE 7", 0, b""), Err(Refusal::OtherSide));
+    /// disk.save_for(Side::Ours, 2, "LINE 7", 0, b"")?;
+    /// assert_eq!(disk.delete_for(Side::Ours, 2, "S 1"), Err(Refusal::OtherSide));
+    /// # Ok::<(), Refusal>(())
+    /// ```
+    ///
+    /// # Errors
+    /// 1 to 6, 20, 14, 23, 22, 24, 21. The sectors of a save are told by its length, whatever that is: more
+    /// than [`SAVE_MOST`](crate::SAVE_MOST) bytes may be 24, and are 21 where the limit has room for them.
+    pub fn save_for(
+        &mut self,
+        side: Side,
+        limit: u64,
+        name: impl AsRef<[u8]>,
+        address: u16,
+        data: &[u8],
+    ) -> Result<(), Refusal> {
+        let name = name.as_ref();
+        let (d, n) = (self.bytes.as_mut_ptr(), self.bytes.len());
+        // SAFETY: as in `save`.
+        lend::accepted(unsafe {
+            raw::dos33_save_for(
+                d,
+                n,
+                side.byte(),
+                limit,
+                name.as_ptr(),
+                name.len(),
+                address,
+                data.as_ptr(),
+                data.len(),
+            )
+        })
+    }
+
+    /// Deletes as [`delete`](DiskMut::delete) does, for a side. The name must be its own. The limit is not
+    /// looked at: what is over it can be deleted.
+    ///
+    /// # Errors
+    /// 1 to 6, 20, 14, 23, 18.
+    pub fn delete_for(
+        &mut self,
+        side: Side,
+        limit: u64,
+        name: impl AsRef<[u8]>,
+    ) -> Result<(), Refusal> {
+        let name = name.as_ref();
+        let (d, n) = (self.bytes.as_mut_ptr(), self.bytes.len());
+        // SAFETY: as in `save`.
+        lend::accepted(unsafe {
+            raw::dos33_delete_for(d, n, side.byte(), limit, name.as_ptr(), name.len())
+        })
     }
 }

@@ -60,6 +60,7 @@
 //! | window, survey | [`Disk::sector`], [`Disk::survey`] |
 //! | crossed threads | [`Disk::holders`], [`Disk::is_clean`] |
 //! | saving, deleting | [`DiskMut::save`], [`DiskMut::delete`] |
+//! | two sides on one disk | [`DiskMut::save_for`], [`DiskMut::delete_for`], [`Side`] |
 //! | what saves will need | [`Disk::forecast`] |
 //! | return | [`Disk::archive`], [`Disk::check`], [`Archive`] |
 //! | unroll, nibble writer | [`denibblize`], [`denibblize_13`], [`nibblize`] |
@@ -97,7 +98,7 @@ pub use nibbles::{
 pub use records::{binary_file, catalog_page, EntryRecord};
 pub use refusal::Refusal;
 pub use types::{
-    CatalogEntry, File, FileType, Forecast, Holders, Location, Name, RawName, Sector, Survey,
+    CatalogEntry, File, FileType, Forecast, Holders, Location, Name, RawName, Sector, Side, Survey,
     Track, TrackSectorPair, Vtoc,
 };
 
@@ -119,7 +120,7 @@ pub const DISK_SIZE_13: usize = 256 * SECTORS_PER_TRACK_13 * TRACKS;
 /// The bytes of a stream that [`nibblize`] writes.
 pub const STREAM_SIZE: usize = 232_960;
 
-/// The most bytes that a save takes: [`DiskMut::save`].
+/// The most bytes that a save takes: [`DiskMut::save`], [`DiskMut::save_for`].
 pub const SAVE_MOST: usize = 32_768;
 
 /// The most lengths that a forecast takes: [`Disk::forecast`].

@@ -1,8 +1,8 @@
 //! The exported functions as they are. The safe calls of this crate stand on them.
 //!
 //! A flat disk is 143,360 bytes (16 sectors a track) or 116,480 (13); its length alone says which.
-//! Only [`dos33_nibblize`], [`dos33_save`], [`dos33_delete`] and [`dos33_forecast`] refuse the second. A
-//! stream is read by the coding that the caller names.
+//! Only [`dos33_nibblize`], [`dos33_forecast`] and the saves and deletes refuse the second. A stream is read
+//! by the coding that the caller names.
 //!
 //! A slice is a pointer and a length (of `lengths`, `fields` and `run`: in elements). The result is the number of
 //! a refusal, 0 for accepted; only [`dos33_recognize_prologue`] gives something else. Under a refusal
@@ -145,6 +145,31 @@ extern "C" {
     pub fn dos33_delete(
         disk: *mut u8,
         disk_length: usize,
+        name: *const u8,
+        name_length: usize,
+    ) -> u8;
+
+    /// The same by a side: 0 is ours, anything else the survey office. Names that begin with S (53h) are the
+    /// survey office's, all others ours. `limit` is how many sectors the side may hold, lists and data; what
+    /// it holds and what the save takes must not be over it. Refusals 1 to 6, 20, 14, 23, 22, 24, 21.
+    pub fn dos33_save_for(
+        disk: *mut u8,
+        disk_length: usize,
+        side: u8,
+        limit: u64,
+        name: *const u8,
+        name_length: usize,
+        address: u16,
+        data: *const u8,
+        data_length: usize,
+    ) -> u8;
+
+    /// As [`dos33_delete`], by a side. `limit` is not looked at. Refusals 1 to 6, 20, 14, 23, 18.
+    pub fn dos33_delete_for(
+        disk: *mut u8,
+        disk_length: usize,
+        side: u8,
+        limit: u64,
         name: *const u8,
         name_length: usize,
     ) -> u8;
@@ -325,7 +350,7 @@ extern "C" {
         fields_length: usize,
     ) -> u8;
 
-    /// The letters of the word of a refusal, by its number: at most 15, ASCII. A number that no refusal has,
+    /// The letters of the word of a refusal, by its number: at most 17, ASCII. A number that no refusal has,
     /// 0 among them, has none: accepted, and `*length` is 0. Refusal 12.
     pub fn dos33_refusal_word(number: u8, out: *mut u8, out_length: usize, length: *mut u64) -> u8;
 }

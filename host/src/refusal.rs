@@ -5,7 +5,7 @@ use std::sync::OnceLock;
 use crate::{lend, raw};
 
 // The letters of the longest word.
-const WORD_MOST: usize = 15;
+const WORD_MOST: usize = 17;
 
 /// Why a call refuses. Words and numbers are those of document 01, "Numbers on the slip", and from 20 on
 /// those of document 02.
@@ -69,6 +69,11 @@ pub enum Refusal {
     NoSpace,
     /// 22: an entry of the catalog shows the name to save.
     NameTaken,
+    /// 23: a save or a delete by a side of a name that is the other side's ([`Side`](crate::Side) says whose
+    /// a name is), on the disk or not.
+    OtherSide,
+    /// 24: the sectors that a side holds and those of its save are together over its limit.
+    OverLimit,
     /// 25: over 64 lengths to forecast.
     PlanLong,
     /// A number that no refusal has. No function gives one.
@@ -76,7 +81,7 @@ pub enum Refusal {
 }
 
 impl Refusal {
-    /// All of them, in the order of their numbers: 1 to 18, 20 to 22, 25.
+    /// All of them, in the order of their numbers: 1 to 18, 20 to 25.
     pub const ALL: &'static [Refusal] = &[
         Refusal::OffSize,
         Refusal::NoTable,
@@ -99,6 +104,8 @@ impl Refusal {
         Refusal::NotClean,
         Refusal::NoSpace,
         Refusal::NameTaken,
+        Refusal::OtherSide,
+        Refusal::OverLimit,
         Refusal::PlanLong,
     ];
 
@@ -140,6 +147,8 @@ impl Refusal {
             Refusal::NotClean => 20,
             Refusal::NoSpace => 21,
             Refusal::NameTaken => 22,
+            Refusal::OtherSide => 23,
+            Refusal::OverLimit => 24,
             Refusal::PlanLong => 25,
             Refusal::Unnamed(n) => n,
         }

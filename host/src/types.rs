@@ -209,6 +209,27 @@ pub struct File {
     pub bytes: Vec<u8>,
 }
 
+/// A side that saves to a disk which both use: [`DiskMut::save_for`](crate::DiskMut::save_for). A name that
+/// begins with `S` (53h), as the catalog shows it, is the survey office's. Every other name is ours, and so
+/// are `s`, an `S` behind a space and the empty name.
+#[derive(Clone, Copy, Debug, PartialEq, Eq, Hash, PartialOrd, Ord)]
+pub enum Side {
+    /// We.
+    Ours,
+    /// The survey office.
+    Survey,
+}
+
+impl Side {
+    // As the raw calls take it.
+    pub(crate) fn byte(self) -> u8 {
+        match self {
+            Side::Ours => 0,
+            Side::Survey => 1,
+        }
+    }
+}
+
 /// The volume table of contents.
 #[derive(Clone, Copy, Debug, PartialEq, Eq, Hash)]
 #[non_exhaustive]

@@ -1,5 +1,6 @@
 // The raw functions: what is lent stays as it is under a refusal, and past what is written.
 mod common;
+use common::to_save::{bytes, only_free, with_files};
 use common::{at_13, disk, disk_13, five_three};
 use dos33::raw::*;
 
@@ -242,6 +243,81 @@ fn calls_on_streams() {
     }
 }
 
+// What a save or a delete is lent: the disk, the name and the data, each a pointer and a length.
+type Lent = ((*mut u8, usize), (*const u8, usize), (*const u8, usize));
+
+// Refused: disk, name and data stay, and what lies round them.
+fn keeps(due: u8, parts: [&[u8]; 3], call: &dyn Fn(Lent) -> u8) {
+    let round = |part: &[u8]| [&[OLD; 40], part, &[OLD; 40]].concat();
+    let before = parts.map(round);
+    let [mut d, name, data] = before.clone();
+    let [n, m, k] = parts.map(<[u8]>::len);
+    let lent = (
+        (d[40..].as_mut_ptr(), n),
+        (name[40..].as_ptr(), m),
+        (data[40..].as_ptr(), k),
+    );
+    assert_eq!(call(lent), due);
+    assert!([d, name, data] == before);
+}
+
+#[test]
+fn refused_saves_and_deletes() {
+    let good = with_files();
+    let poked = |i: usize, pokes: &[u8]| {
+        let mut d = good.clone();
+        d[i..i + pokes.len()].copy_from_slice(pokes);
+        d
+    };
+    let table = common::at(17, 0);
+    let mut full = good.clone();
+    only_free(&mut full, &[]);
+    let bad = [
+        (1, good[1..].to_vec()),
+        (2, poked(table + 52, &[36])),
+        (3, poked(table + 1, &[35])),
+        (4, poked(common::at(17, 14) + 1, &[17, 15])),
+        (5, poked(common::at(18, 14) + 1, &[18])),
+        (6, poked(common::at(17, 15) + 14, &[0x80])),
+        (20, poked(table + 56 + 4 * 17 + 1, &[1])),
+    ];
+    let long = bytes(32_769);
+    unsafe {
+        let save = |(d, n, f): Lent| dos33_save(d.0, d.1, n.0, n.1, 0x2000, f.0, f.1);
+        let delete = |(d, n, _): Lent| dos33_delete(d.0, d.1, n.0, n.1);
+        let save_for = |side, limit| {
+            move |(d, n, f): Lent| dos33_save_for(d.0, d.1, side, limit, n.0, n.1, 0x2000, f.0, f.1)
+        };
+        let delete_for =
+            |side, limit| move |(d, n, _): Lent| dos33_delete_for(d.0, d.1, side, limit, n.0, n.1);
+        for (due, d) in &bad {
+            keeps(*due, [d, b"NEW", b"7"], &save);
+            keeps(*due, [d, b"NOTES", b""], &delete);
+            for side in [0, 1] {
+                keeps(*due, [d, b"NEW", b"7"], &save_for(side, 0));
+                keeps(*due, [d, b"NOTES", b""], &delete_for(side, 0));
+            }
+        }
+        keeps(14, [&good, b"", b"7"], &save);
+        keeps(14, [&good, b"S ", b""], &delete);
+        keeps(14, [&good, b"S ", b"7"], &save_for(0, 0));
+        keeps(14, [&good, b"", b""], &delete_for(1, 0));
+        keeps(22, [&good, b"NOTES", b"7"], &save);
+        keeps(22, [&good, b"NOTES", b"7"], &save_for(0, 0));
+        keeps(23, [&good, b"NOTES", b"7"], &save_for(1, 0));
+        keeps(23, [&good, b"NOTES", b""], &delete_for(1, 0));
+        keeps(23, [&good, b"S", b""], &delete_for(0, 0));
+        keeps(24, [&good, b"NEW", b"7"], &save_for(0, 10));
+        keeps(24, [&good, b"S", &long], &save_for(255, 130));
+        keeps(21, [&good, b"S", &long], &save_for(255, 131));
+        keeps(21, [&full, b"NEW", b"7"], &save_for(0, 11));
+        keeps(21, [&full, b"NEW", b"7"], &save);
+        keeps(21, [&good, b"NEW", &long], &save);
+        keeps(18, [&good, b"NEW", b""], &delete);
+        keeps(18, [&good, b"NEW", b""], &delete_for(0, 0));
+    }
+}
+
 // The words of all numbers; `refusals.rs` has what each is.
 #[test]
 fn words_of_refusals() {
@@ -252,8 +328,10 @@ fn words_of_refusals() {
     assert_eq!(hands(9, &word(20)), b"not clean");
     assert_eq!(hands(8, &word(21)), b"no space");
     assert_eq!(hands(10, &word(22)), b"name taken");
+    assert_eq!(hands(17, &word(23)), b"other side's name");
+    assert_eq!(hands(10, &word(24)), b"over limit");
     assert_eq!(hands(9, &word(25)), b"plan long");
-    for number in (26..=255).chain([0, 19, 23, 24]) {
+    for number in (26..=255).chain([0, 19]) {
         assert_eq!(hands(0, &word(number)), b"");
     }
 }

@@ -28,7 +28,7 @@ fn deep(d: &[u8], due: Refusal) {
     amended(d, due);
 }
 
-// So do a save and a delete, and the disk stays as it was, and a forecast. The same where the map calls the VTOC free: 20 comes behind.
+// So do a save and a delete, by a side or not, and the disk stays as it was, and a forecast. The same where the map calls the VTOC free: 20 comes behind.
 fn amended(d: &[u8], due: Refusal) {
     let mut dirty = d.to_vec();
     if let Some(bits) = dirty.get_mut(at(17, 0) + 56 + 4 * 17 + 1) {
@@ -40,6 +40,10 @@ fn amended(d: &[u8], due: Refusal) {
         for (name, data) in [(&b"NEW"[..], &[1; 9][..]), (b"", &[]), (b"LINE 7", &[])] {
             assert_eq!(disk.save(name, 1, data), Err(due));
             assert_eq!(disk.delete(name), Err(due));
+            for side in [Side::Ours, Side::Survey] {
+                assert_eq!(disk.save_for(side, 0, name, 1, data), Err(due));
+                assert_eq!(disk.delete_for(side, 0, name), Err(due));
+            }
         }
         for lengths in [&[][..], &[0], &[u64::MAX; 64]] {
             assert_eq!(disk.disk().forecast(lengths), Err(due));
@@ -80,10 +84,12 @@ fn words_and_numbers() {
         "not clean",
         "no space",
         "name taken",
+        "other side's name",
+        "over limit",
         "plan long",
     ];
-    // 19 is left for Req 01, 23 and 24 for Req 10.
-    let numbers = (1..=18).chain(20..=22).chain([25]);
+    // 19 is left for Req 01.
+    let numbers = (1..=18).chain(20..=25);
     for (k, (number, word)) in numbers.clone().zip(words).enumerate() {
         let r = Refusal::from_number(number).unwrap();
         assert_eq!(r, Refusal::ALL[k]);

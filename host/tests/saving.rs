@@ -2,24 +2,13 @@
 // byte for byte, to the words of the request.
 mod common;
 use common::by_words::{self, at, held, in_use, is_free, lines, mark, sectors, Place, VTOC};
+use common::ops::{an_op, delete, save, Op};
 use common::to_save::{
-    a_name, bytes, every_sector, formatted, only_free, start, with_files, BAD_NAMES, SIZES, TABLE,
+    bytes, every_sector, formatted, only_free, start, with_files, BAD_NAMES, SIZES, TABLE,
 };
 use common::{disk_13, Dice, SIZE};
 use dos33::*;
 use std::collections::BTreeSet;
-
-fn save(d: &mut [u8], name: &[u8], address: u16, data: &[u8]) -> u8 {
-    number(DiskMut::flat(d).save(name, address, data))
-}
-
-fn delete(d: &mut [u8], name: &[u8]) -> u8 {
-    number(DiskMut::flat(d).delete(name))
-}
-
-fn number(answer: Result<(), Refusal>) -> u8 {
-    answer.err().map_or(0, Refusal::number)
-}
 
 // A refused call leaves the disk as it was.
 fn save_refused(d: &[u8], name: &[u8], data: &[u8], due: u8) {
@@ -474,34 +463,6 @@ fn little_stack() {
 
 // ---- sequences by chance
 
-#[derive(Clone, Debug)]
-enum Op {
-    Save(Vec<u8>, u16, Vec<u8>),
-    Delete(Vec<u8>),
-}
-
-impl Op {
-    fn name(&self) -> &[u8] {
-        match self {
-            Op::Save(name, _, _) | Op::Delete(name) => name,
-        }
-    }
-
-    fn on(&self, d: &mut [u8]) -> u8 {
-        match self {
-            Op::Save(name, address, data) => save(d, name, *address, data),
-            Op::Delete(name) => delete(d, name),
-        }
-    }
-
-    fn by_words(&self, d: &mut Vec<u8>) -> u8 {
-        match self {
-            Op::Save(name, address, data) => by_words::save(d, name, *address, data),
-            Op::Delete(name) => by_words::delete(d, name),
-        }
-    }
-}
-
 // What a line holds.
 #[derive(Clone, Debug, PartialEq)]
 struct Line {
@@ -531,13 +492,11 @@ impl Line {
         for (to, letter) in raw_name.iter_mut().zip(name) {
             *to = letter | 0x80;
         }
-        let data_sectors = (data.len() + 4).div_ceil(256);
-        let lists = data_sectors.div_ceil(122);
         Line {
             raw_name,
             kind: FileType::Binary,
             locked: false,
-            sectors: (data_sectors + lists) as u16,
+            sectors: by_words::sectors_for(data.len()) as u16,
             bytes: data.to_vec(),
         }
     }
@@ -650,31 +609,6 @@ fn step(d: &mut Vec<u8>, lines_beside: &mut Lines, op: &Op) -> u8 {
         assert!(disk.fetch(name).unwrap() == *data);
     }
     answer
-}
-
-fn some_data(dice: &mut Dice) -> Vec<u8> {
-    let size = match dice.roll(12) {
-        0 => 0,
-        1 => 252,
-        2 => 253,
-        3 => [31_228, 31_229][dice.roll(2)],
-        4 => [32_767, 32_768][dice.roll(2)],
-        5 => [32_769, 32_770, 70_000][dice.roll(3)],
-        6 => dice.roll(32_768),
-        7 | 8 => dice.roll(4000),
-        _ => dice.roll(300),
-    };
-    let (a, b) = (dice.roll(256) as u8, dice.roll(256) as u8);
-    let part: Vec<u8> = (0..=255).map(|k: u8| k.wrapping_mul(a) ^ b).collect();
-    part.iter().copied().cycle().take(size).collect()
-}
-
-fn an_op(dice: &mut Dice) -> Op {
-    let name = a_name(dice);
-    if dice.roll(5) < 2 {
-        return Op::Delete(name);
-    }
-    Op::Save(name, dice.roll(65_536) as u16, some_data(dice))
 }
 
 // What the sequences met.

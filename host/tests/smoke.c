@@ -42,6 +42,7 @@ static size_t thirteen(void) {
 int main(void) {
     static const uint8_t name[] = {'L', 'I', 'N', 'E'};
     static const uint8_t other[] = {'O', 'T', 'H', 'E', 'R', ' '};
+    static const uint8_t survey[] = {'S', ' ', '1'};
     static const uint8_t header[] = {0, 0, 0};
     static const uint64_t plan[DOS33_PLAN_MOST + 1] = {200, 0};
     uint8_t data[300], listed[37] = {18, 2, DOS33_BINARY, 1, 4, 'L', 'I', 'N', 'E'};
@@ -219,10 +220,22 @@ int main(void) {
     EXPECT(n == 37 && out[0] == 20 && memcmp(out + 5, other, 5) == 0);
     EXPECT(image[4096 * 17 + 256 * 15 + 11] == 0xFF && image[4096 * 17 + 256 * 15 + 43] == 18);
     EXPECT(image[4096 * 17 + 56 + 4 * 18 + 1] == 0x1C);
+    /* By a side. OTHER is ours and has two sectors; 18/2 to 18/4 are free. */
+    EXPECT(dos33_save_for(image, sizeof image, DOS33_SURVEY, 4, name, 4, 0, data, 1) == DOS33_OTHER_SIDE);
+    EXPECT(dos33_save_for(image, sizeof image, DOS33_OURS, 3, name, 4, 0, data, 1) == DOS33_OVER_LIMIT);
+    EXPECT(dos33_save_for(image, sizeof image, DOS33_SURVEY, 1, survey, 3, 0, data, 252) == DOS33_OVER_LIMIT);
+    EXPECT(dos33_save_for(image, sizeof image, DOS33_SURVEY, 2, survey, 3, 0, data, 252) == 0);
+    EXPECT(dos33_fetch(image, sizeof image, survey, 3, out, sizeof out, &n) == 0);
+    EXPECT(n == 252 && memcmp(out, data, 252) == 0);
+    EXPECT(dos33_delete_for(image, sizeof image, DOS33_OURS, 4, survey, 3) == DOS33_OTHER_SIDE);
+    EXPECT(dos33_delete_for(image, sizeof image, DOS33_SURVEY, 0, survey, 3) == 0);
+    EXPECT(dos33_delete_for(image, sizeof image, DOS33_SURVEY, 0, survey, 3) == DOS33_NOT_ON_ROLL);
     /* The map calls a held sector free. */
     image[4096 * 17 + 56 + 4 * 20] = 0x80;
     EXPECT(dos33_save(image, sizeof image, name, 0, 0, data, 0) == DOS33_NOT_CLEAN);
     EXPECT(dos33_delete(image, sizeof image, other, 5) == DOS33_NOT_CLEAN);
+    EXPECT(dos33_save_for(image, sizeof image, DOS33_OURS, 0, survey, 3, 0, data, 1) == DOS33_NOT_CLEAN);
+    EXPECT(dos33_delete_for(image, sizeof image, DOS33_OURS, 0, survey, 3) == DOS33_NOT_CLEAN);
     EXPECT(dos33_forecast(image, sizeof image, plan, 2, f, DOS33_FORECAST_FIELDS + 2) == DOS33_NOT_CLEAN);
 
     /* 13 sectors a track: sector 12 of track 17 ends in FFh. */
@@ -264,6 +277,8 @@ int main(void) {
     EXPECT(dos33_nibblize(image, DOS33_DISK_SIZE_13, stream, sizeof stream, &n) == DOS33_OFF_SIZE);
     EXPECT(dos33_save(image, DOS33_DISK_SIZE_13, other, 5, 0, data, 1) == DOS33_OFF_SIZE);
     EXPECT(dos33_delete(image, DOS33_DISK_SIZE_13, other, 5) == DOS33_OFF_SIZE);
+    EXPECT(dos33_save_for(image, DOS33_DISK_SIZE_13, DOS33_OURS, 9, other, 5, 0, data, 1) == DOS33_OFF_SIZE);
+    EXPECT(dos33_delete_for(image, DOS33_DISK_SIZE_13, DOS33_OURS, 9, other, 5) == DOS33_OFF_SIZE);
     EXPECT(dos33_forecast(image, DOS33_DISK_SIZE_13, plan, 2, f, DOS33_FORECAST_FIELDS + 2) == DOS33_OFF_SIZE);
 
     /* Nothing lent changes under a refusal. */
@@ -276,12 +291,12 @@ int main(void) {
 
     /* The word of a number; a number that no refusal has has none. */
     memset(out, 1, sizeof out);
-    EXPECT(dos33_refusal_word(DOS33_UNWRITABLE_NAME, out, DOS33_WORD_MOST - 1, &n) == DOS33_TRAY_SHORT);
+    EXPECT(dos33_refusal_word(DOS33_OTHER_SIDE, out, DOS33_WORD_MOST - 1, &n) == DOS33_TRAY_SHORT);
     EXPECT(n == 99 && out[0] == 1);
-    EXPECT(dos33_refusal_word(DOS33_UNWRITABLE_NAME, out, DOS33_WORD_MOST, &n) == 0);
-    EXPECT(n == DOS33_WORD_MOST && memcmp(out, "unwritable name", n) == 0);
+    EXPECT(dos33_refusal_word(DOS33_OTHER_SIDE, out, DOS33_WORD_MOST, &n) == 0);
+    EXPECT(n == DOS33_WORD_MOST && memcmp(out, "other side's name", n) == 0);
     EXPECT(dos33_refusal_word(DOS33_RING, out, sizeof out, &n) == 0);
-    EXPECT(n == 4 && memcmp(out, "ringitable name", DOS33_WORD_MOST) == 0);
+    EXPECT(n == 4 && memcmp(out, "ringr side's name", DOS33_WORD_MOST) == 0);
     EXPECT(dos33_refusal_word(DOS33_ACCEPTED, out, 0, &n) == 0 && n == 0);
     EXPECT(dos33_refusal_word(19, out, 0, &n) == 0 && n == 0 && out[0] == 'r');
 

@@ -242,8 +242,8 @@ word-shown : (x : ℕ) → shownWord x ≡ spelled (lettersOf x)
 unfolding shownWord lettersOf
 word-shown x = word-letters (refusalOf x)
 
-spelled-front : (l : List ℕ) → take (length l) (drop 0 (l ++ replicate (15 - length l) 0)) ≡ l
-spelled-front l = take-at l (replicate (15 - length l) 0) (length l) refl
+spelled-front : (l : List ℕ) → take (length l) (drop 0 (l ++ replicate (17 - length l) 0)) ≡ l
+spelled-front l = take-at l (replicate (17 - length l) 0) (length l) refl
 
 word-front : (x : ℕ) (w : Word) → w ≡ shownWord x → take (w .1) (drop 0 (w .0)) ≡ lettersOf x
 word-front x w e = ap (λ (v : Word). take (v .1) (drop 0 (v .0))) (e ∙ word-shown x) ∙ spelled-front (lettersOf x)

@@ -11,6 +11,7 @@ ghost use Rattle.files.specs.Survey.{fetched};
 ghost use Rattle.pairs.specs.Run.{pairRun};
 ghost use Rattle.files.specs.Chosen.{fileOfNumber, listsOfNumber};
 ghost use Rattle.amend.specs.Save.{saved, deleted};
+ghost use Rattle.sides.specs.Sides.{savedFor, deletedFor};
 ghost use Rattle.saving.specs.Saving.{Amended};
 ghost use Rattle.forecast.specs.Forecast.{forecastNumbers};
 ghost use Rattle.nibble.specs.Nibble.{encoded};
@@ -27,6 +28,7 @@ ghost use Rattle.records.specs.Records.{entryWritten, pageWritten, fileWritten}
 ghost use Rattle.fields.specs.Search.{recognized};
 ghost use Rattle.reader.specs.Steps.{entryStep};
 ghost use Rattle.host.specs.Exports.{Exports, Fields, Told, yes, lettersOf, vtocNumbers, surveyNumbers, holderNumbers, openNumbers, entryFields, entryNumbers, formatNumbers};
+ghost use Rattle.host.specs.Sides.{sideOf};
 use disk::Place;
 use disk::Sector;
 use disk::Track;
@@ -36,6 +38,7 @@ use outcome::Handed;
 use outcome::TRAY_SHORT;
 use pairs::TrackSectorPair;
 use reader::Entry;
+use sides::Side;
 
 // Tells an answer: its number is the result, its length goes behind `length`.
 fn tell(h: Handed, length: &mut u64) -> u8
@@ -144,6 +147,41 @@ pub extern "C" fn dos33_delete(disk: &mut [u8], name: &[u8]) -> u8
     ensures { λ r. ⌜ Amended (deleted 16 (now (disk .entry)) (now (name .entry))) (now (disk .entry)) (now (disk .exit)) r ⌝ }
 {
     saving::delete(disk, name)
+}
+
+// The side that a host names by a byte: 0 is ours, anything else the survey office.
+fn side_of(side: u8) -> Side
+    ensures { λ r. ⌜ r ≡ sideOf side ⌝ }
+{
+    if side == 0 {
+        return Side::Ours;
+    }
+    Side::Survey
+}
+
+// A save by a side, within its limit of sectors. 1 to 6, 20, 14, 23, 22, 24, 21.
+#[no_mangle]
+pub extern "C" fn dos33_save_for(
+    disk: &mut [u8],
+    side: u8,
+    limit: u64,
+    name: &[u8],
+    address: u16,
+    data: &[u8],
+) -> u8
+    ensures { λ r. ⌜ Amended (savedFor 16 (now (disk .entry)) (sideOf side) limit (now (name .entry)) address (now («data» .entry))) (now (disk .entry)) (now (disk .exit)) r ⌝ }
+{
+    let asker = side_of(side);
+    saving::save_for(disk, asker, limit, name, address, data)
+}
+
+// A delete by a side; its limit is not looked at. 1 to 6, 20, 14, 23, 18.
+#[no_mangle]
+pub extern "C" fn dos33_delete_for(disk: &mut [u8], side: u8, limit: u64, name: &[u8]) -> u8
+    ensures { λ r. ⌜ Amended (deletedFor 16 (now (disk .entry)) (sideOf side) limit (now (name .entry))) (now (disk .entry)) (now (disk .exit)) r ⌝ }
+{
+    let asker = side_of(side);
+    saving::delete_for(disk, asker, limit, name)
 }
 
 // The 342 nibbles of a sector and their sum. 1, 12.
@@ -307,7 +345,7 @@ pub extern "C" fn dos33_window<'a>(
     put_bytes(bytes, out, length)
 }
 
-// The letters of a refusal's word, by its number: at most 15, and none where no refusal has the number, as for 0. 12.
+// The letters of a refusal's word, by its number: at most 17, and none where no refusal has the number, as for 0. 12.
 #[no_mangle]
 pub extern "C" fn dos33_refusal_word(number: u8, out: &mut [u8], length: &mut u64) -> u8
     ensures { λ r. ⌜ Exports (given (lettersOf number)) (now (out .entry)) (now (out .exit)) (now (length .entry)) (now (length .exit)) r ⌝ }

@@ -42,6 +42,17 @@ mod raw {
             data_length: usize,
         ) -> u8;
         pub fn dos33_delete(d: *mut u8, n: usize, name: *const u8, name_length: usize) -> u8;
+        pub fn dos33_save_for(
+            d: *mut u8,
+            n: usize,
+            side: u8,
+            limit: u64,
+            name: *const u8,
+            name_length: usize,
+            address: u16,
+            data: *const u8,
+            data_length: usize,
+        ) -> u8;
         pub fn dos33_forecast(
             d: *const u8,
             n: usize,
@@ -105,6 +116,9 @@ const SMALL: Kind = (1, 6);
 // What is saved: the largest file there is.
 const SAVED: usize = 32_768;
 const NAME: &[u8] = b"SAVED";
+
+// What is saved by a side, ours: it holds nearly all that the disk has, and that is counted.
+const OUR_NAME: &[u8] = b"LINE7";
 
 // What a shift may plan: 64 files each of the same length.
 const PLANS: [(&str, u64); 3] = [
@@ -287,6 +301,17 @@ impl<'c> Work<'c> {
         );
     }
 
+    // The same by a side, with room in its limit for that and no more than a disk has.
+    fn save_for(&mut self) {
+        let (d, n) = (self.copy.as_mut_ptr(), self.copy.len());
+        let (a, size) = (self.data.as_ptr(), self.data.len());
+        let (name, length) = (OUR_NAME.as_ptr(), OUR_NAME.len());
+        assert_eq!(
+            unsafe { raw::dos33_save_for(d, n, 0, 560, name, length, 0x2000, a, size) },
+            0
+        );
+    }
+
     // On the disk with room: how many of them go on.
     fn forecast(&mut self) -> u64 {
         let (d, n) = (self.roomy.as_ptr(), self.roomy.len());
@@ -414,7 +439,7 @@ impl<'c> Work<'c> {
 
 type Thing = (&'static str, fn(&mut Work));
 
-const THINGS: [Thing; 24] = [
+const THINGS: [Thing; 25] = [
     ("survey", |w| w.survey()),
     ("holders", |w| w.holders()),
     ("survey-roomy", |w| w.survey_roomy()),
@@ -423,6 +448,10 @@ const THINGS: [Thing; 24] = [
     ("copy-and-save", |w| {
         w.copy_roomy();
         w.save();
+    }),
+    ("copy-and-save-for", |w| {
+        w.copy_roomy();
+        w.save_for();
     }),
     ("copy-and-delete", |w| {
         w.copy_saved();
@@ -555,7 +584,7 @@ fn alone(work: &mut Work, before: fn(&mut Work), thing: fn(&mut Work)) -> f64 {
     best
 }
 
-// A file of 32,768 bytes saved to a copy of the disk with room, and deleted from it. The goal: four surveys of that disk, and the copy.
+// A file of 32,768 bytes saved to a copy of the disk with room, also by a side, and deleted from it. The goal: four surveys of that disk, and the copy.
 fn saving(work: &mut Work) {
     let (survey, holders) = least(
         work,
@@ -569,6 +598,8 @@ fn saving(work: &mut Work) {
     println!("  with room: survey {survey:.0} ns, holders {holders:.0} ns, copy {copy:.0} ns");
     let save = alone(work, |w| w.copy_roomy(), |w| w.save());
     row("32,768 bytes saved", save, "goal", goal);
+    let save_for = alone(work, |w| w.copy_roomy(), |w| w.save_for());
+    row("the same by a side", save_for, "saved", save);
     let delete = alone(work, |w| w.copy_saved(), |w| w.delete());
     row("the same deleted", delete, "survey", survey);
 }

@@ -1,4 +1,5 @@
-// Saving and deleting by the words of Req 09, step by step on the bytes of a flat disk of 16 sectors a track that is read: 1 to 6 are not told here.
+// Saving and deleting by the words of Req 09, and by a side as Req 10 has it, step by step on the bytes of a flat disk of 16 sectors a track that is read: 1 to 6
+// are not told here.
 // Nothing of the crate is called.
 
 pub type Place = (u8, u8);
@@ -52,15 +53,29 @@ fn named(d: &[u8], line: usize, name: &[u8]) -> bool {
     in_use(d, line) && shown(&d[line + 3..line + 33]) == name
 }
 
-/// The lists of a line in use, each with its data sectors behind it.
-pub fn sectors(d: &[u8], line: usize) -> Vec<Place> {
+/// The lists of a line in use.
+pub fn lists(d: &[u8], line: usize) -> Vec<Place> {
     let mut all = Vec::new();
     let mut list = pair(d, line);
     while list.0 != 0 {
         all.push(list);
-        let pairs = (12..256).step_by(2).map(|k| pair(d, at(list) + k));
-        all.extend(pairs.take_while(|p| p.0 != 0));
         list = pair(d, at(list) + 1);
+    }
+    all
+}
+
+/// The data sectors that a list names.
+pub fn data_of(d: &[u8], list: Place) -> Vec<Place> {
+    let pairs = (12..256).step_by(2).map(|k| pair(d, at(list) + k));
+    pairs.take_while(|p| p.0 != 0).collect()
+}
+
+/// The lists of a line in use, each with its data sectors behind it.
+pub fn sectors(d: &[u8], line: usize) -> Vec<Place> {
+    let mut all = Vec::new();
+    for list in lists(d, line) {
+        all.push(list);
+        all.extend(data_of(d, list));
     }
     all
 }
@@ -218,4 +233,66 @@ pub fn delete(d: &mut [u8], name: &[u8]) -> u8 {
     d[line + 32] = d[line];
     d[line] = 255;
     0
+}
+
+// ---- by a side
+
+/// Names that begin with S are the survey office's, all others ours.
+pub fn belongs(survey: bool, name: &[u8]) -> bool {
+    (name.first() == Some(&b'S')) == survey
+}
+
+/// Where the lines in use by a side start, in chain order.
+pub fn own_lines(d: &[u8], survey: bool) -> Vec<usize> {
+    let mut all = lines(d);
+    all.retain(|x| in_use(d, *x) && belongs(survey, &shown(&d[x + 3..x + 33])));
+    all
+}
+
+/// The sectors that a side holds, lists and data.
+pub fn own_sectors(d: &[u8], survey: bool) -> Vec<Place> {
+    let lines = own_lines(d, survey).into_iter();
+    lines.flat_map(|x| sectors(d, x)).collect()
+}
+
+/// The sectors of so many bytes, lists and data: address and length stand before them, and a list has 122 pairs.
+pub fn sectors_for(bytes: usize) -> usize {
+    let data = (bytes + 4).div_ceil(256);
+    data + data.div_ceil(122)
+}
+
+/// 20, 14, 23, 22, 24, 21, or 0 and the file is on the disk.
+pub fn save_for(
+    d: &mut Vec<u8>,
+    survey: bool,
+    limit: u64,
+    name: &[u8],
+    address: u16,
+    data: &[u8],
+) -> u8 {
+    if !clean(d) {
+        return 20;
+    }
+    if !savable(name) {
+        return 14;
+    }
+    if !belongs(survey, name) {
+        return 23;
+    }
+    if lines(d).into_iter().any(|x| named(d, x, name)) {
+        return 22;
+    }
+    let together = own_sectors(d, survey).len() + sectors_for(data.len());
+    if together as u64 > limit {
+        return 24;
+    }
+    save(d, name, address, data)
+}
+
+/// 20, 14, 23, 18, or 0 and the last entry of the name is deleted.
+pub fn delete_for(d: &mut [u8], survey: bool, name: &[u8]) -> u8 {
+    if clean(d) && savable(name) && !belongs(survey, name) {
+        return 23;
+    }
+    delete(d, name)
 }

@@ -3,6 +3,7 @@
 
 pub mod by_words;
 pub mod five_three;
+pub mod ops;
 pub mod to_save;
 
 use dos33::{Disk, LIST_PAIRS, SECTORS_PER_TRACK, SECTORS_PER_TRACK_13};

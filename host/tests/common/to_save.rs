@@ -177,18 +177,22 @@ fn by_chance(dice: &mut Dice) -> Vec<u8> {
         }
     }
     odd_search(&mut d, dice);
-    // Of the sectors that no one holds all are free, or most, half, few.
-    let (some, of) = [(1, 1), (1, 1), (9, 10), (1, 2), (1, 8)][dice.roll(5)];
-    let held: BTreeSet<Place> = held(&d).into_iter().collect();
-    for place in every_sector() {
-        let free = dice.roll(of) < some && !held.contains(&place);
-        mark(&mut d, place, free);
-    }
+    odd_map(&mut d, dice);
     d
 }
 
+// Of the sectors that no one holds all are free, or most, half, few.
+pub fn odd_map(d: &mut [u8], dice: &mut Dice) {
+    let (some, of) = [(1, 1), (1, 1), (9, 10), (1, 2), (1, 8)][dice.roll(5)];
+    let held: BTreeSet<Place> = held(d).into_iter().collect();
+    for place in every_sector() {
+        let free = dice.roll(of) < some && !held.contains(&place);
+        mark(d, place, free);
+    }
+}
+
 // Any last track and direction.
-fn odd_search(d: &mut [u8], dice: &mut Dice) {
+pub fn odd_search(d: &mut [u8], dice: &mut Dice) {
     d[TABLE + 48] = [dice.roll(35), dice.roll(35), dice.roll(256)][dice.roll(3)] as u8;
     d[TABLE + 49] = [1, 255, 255, dice.roll(256)][dice.roll(4)] as u8;
 }
