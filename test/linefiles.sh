@@ -547,6 +547,190 @@ holds forecast-kept-names diff <(cat ring ring) <(cat ./--odd $'bell\x07\x1b[2J\
 holds forecast-nothing-written tidy "one.po "
 rm -rf outs/*
 
+# two sides: names that begin with S are the survey office's, all others ours, and each has a limit; the disk is the one that a plain save or delete makes
+cp samples/one-page.dsk outs/disk.dsk
+cp samples/one-page.dsk plain.dsk
+chmod 640 outs/disk.dsk
+chmod u+w plain.dsk
+same side-ours-save save outs/disk.dsk 'LINE 7 RING 8' 8192 ring --side ours --limit 139
+run save plain.dsk 'LINE 7 RING 8' 8192 ring
+holds side-ours-save-bytes cmp plain.dsk outs/disk.dsk
+same side-survey-save save --side survey --limit 40 outs/disk.dsk 'S RING' 8192 ring
+holds side-survey-save-mode test "$(stat -c %a:%u:%g outs/disk.dsk)" = "640:$(id -u):$(id -g)"
+run save plain.dsk 'S RING' 8192 ring
+holds side-survey-save-bytes cmp plain.dsk outs/disk.dsk
+same side-survey-s save outs/disk.dsk S 8192 nothing --limit 00009 --side survey
+cp outs/disk.dsk sided.dsk
+same side-survey-shown survey outs/disk.dsk
+same side-survey-json survey outs/disk.dsk --json
+same side-ours-delete delete outs/disk.dsk 'LINE 7 RING 8' --side ours
+same side-survey-delete delete outs/disk.dsk 'SHIFT NOTES' --limit 3 --side survey
+same side-survey-delete-again delete outs/disk.dsk S --side survey --limit 18446744073709551615
+same side-survey-delete-last delete outs/disk.dsk 'S RING' --side survey --limit 0
+holds side-tidy tidy "disk.dsk "
+run delete sided.dsk 'LINE 7 RING 8' --out plain.dsk --force
+for name in 'SHIFT NOTES' S 'S RING'; do run delete plain.dsk "$name"; done
+holds side-delete-bytes cmp plain.dsk outs/disk.dsk
+
+# whose a name is: the first letter alone, as it is written
+for name in LS s 'sHIFT' ' S' 'LINE S' '\x13S' '~S'; do
+    run save samples/one-page.dsk "$name" 0 nothing --side ours --limit 136 --out - --force
+    holds "side-ours-$name" test "$status $(tail -n 1 err)" = '0 our side: 136 of 136 sectors'
+    run save samples/one-page.dsk "$name" 0 nothing --side survey --limit 136 --out outs/none
+    holds "side-not-survey-$name" test "$status $(sed -n 1p err) $(sed -n '2s/.* is/is/p' err)" = "1 refused: 23 other side's name is ours;"
+done
+for name in S SS '\x53' 'S~' 'STATION 1' 'SHIFT'; do
+    run save samples/one-page.dsk "$name" 0 nothing --side survey --limit 4 --out - --force
+    holds "side-survey-$name" test "$status $(tail -n 1 err)" = '0 survey office: 4 of 4 sectors'
+    run save samples/one-page.dsk "$name" 0 nothing --side ours --limit 1000 --out outs/none
+    holds "side-not-ours-$name" test "$status $(sed -n 1p err) $(sed -n '2s/.* is/is/p' err)" = "1 refused: 23 other side's name is the survey office's;"
+done
+
+# what is refused, and in which order: 20, 14, 23, 22, 24, 21 for a save, 20, 14, 23, 18 for a delete; the disk stays
+cp samples/one-page.dsk outs/disk.dsk
+same side-one-too-few save outs/disk.dsk 'LINE 7 RING 8' 8192 ring --side ours --limit 138
+same side-survey-one-too-few save outs/disk.dsk 'S RING' 8192 ring --side survey --limit 6
+same side-limit-0 save outs/disk.dsk 'S RING' 8192 nothing --side survey --limit 0
+same side-over-already save outs/disk.dsk 'LINE 7 RING 8' 8192 nothing --side ours --limit 3
+same side-two-lists save outs/disk.dsk 'S LONG' 8192 long --side survey --limit 132
+same side-too-long save outs/disk.dsk 'S LONG' 8192 longest --side survey --limit 132
+same side-too-long-within save outs/disk.dsk 'S LONG' 8192 longest --side survey --limit 133
+same side-ours-other save outs/disk.dsk 'STATIONS' 8192 ring --side ours --limit 1000
+same side-survey-other save outs/disk.dsk 'LINE 7 RING 8' 8192 ring --side survey --limit 1000
+same side-other-taken save outs/disk.dsk 'SHIFT NOTES' 8192 ring --side ours --limit 0
+same side-taken save outs/disk.dsk 'SHIFT NOTES' 8192 ring --side survey --limit 0
+same side-bad-name save outs/disk.dsk 'S ' 8192 ring --side ours --limit 0
+same side-no-name save outs/disk.dsk '' 8192 ring --side survey --limit 0
+same side-ours-delete-other delete outs/disk.dsk 'SHIFT NOTES' --side ours
+same side-survey-delete-other delete outs/disk.dsk 'LINE 7 RING 1' --side survey --limit 1000
+same side-delete-other-missing delete outs/disk.dsk 'SHIFT' --side ours
+same side-delete-missing delete outs/disk.dsk 'SHIFT' --side survey
+same side-delete-bad-name delete outs/disk.dsk 'S ' --side ours
+holds side-refused-kept cmp samples/one-page.dsk outs/disk.dsk
+same side-full-over save samples/full.dsk 'LINE 0' 8192 ring --side ours --limit 500 --out outs/none
+same side-full-equal save samples/full.dsk 'LINE 0' 8192 ring --side ours --limit 501 --out outs/none
+same side-full-within save samples/full.dsk 'LINE 0' 8192 ring --side ours --limit 18446744073709551615 --out outs/none
+same side-full-survey save samples/full.dsk 'S' 8192 nothing --side survey --limit 1 --out outs/none
+for disk in crossed ring thirteen no-table; do
+    damaged disk-too.dsk "${disk/no-table/one-page}.dsk" 0 00
+    [ $disk != no-table ] || patch disk-too.dsk "$(at 17 0 52)" 24
+    run save disk-too.dsk S 0 nothing --out outs/none
+    cat out err >told
+    run save disk-too.dsk S 0 nothing --side ours --limit 0 --out outs/none
+    holds "side-save-$disk" diff told <(cat out err)
+    run delete disk-too.dsk S --side ours --out outs/none
+    holds "side-delete-$disk" diff told <(cat out err)
+done
+# a disk with nothing on it
+cp blank.dsk outs/blank.dsk
+same side-blank-0 save outs/blank.dsk S 0 nothing --side survey --limit 0
+same side-blank-1 save outs/blank.dsk L 0 nothing --side ours --limit 1
+same side-blank-2 save outs/blank.dsk S 0 nothing --side survey --limit 2
+same side-blank-3 save outs/blank.dsk S1 0 nothing --side survey --limit 3
+same side-blank-4 save outs/blank.dsk S1 0 nothing --side survey --limit 4
+same side-blank-delete delete outs/blank.dsk S --side survey --limit 1
+holds side-nothing-left not test -e outs/none
+
+# --out, standard input and standard output
+same side-out save samples/one-page.dsk 'S RING' 8192 ring --side survey --limit 7 --out outs/other.dsk
+run save samples/one-page.dsk 'S RING' 8192 ring --out plain.dsk --force
+holds side-out-bytes cmp plain.dsk outs/other.dsk
+run save - 'S RING' 8192 ring --side survey --limit 7 --out - <samples/one-page.dsk
+holds side-dashes cmp plain.dsk out
+holds side-dashes-told diff err - <<'END'
+standard input: flat disk of 143360 bytes, 16 sectors a track
+saved S RING at address 8192: 1000 bytes, 4 data sectors, 1 list
+survey office: 7 of 7 sectors
+END
+run save samples/one-page.dsk 'S RING' 8192 - --side survey --limit 7 --out - <ring
+holds side-dash-file cmp plain.dsk out
+run delete - 'S RING' --side survey --out - <plain.dsk
+holds side-dash-delete test "$status $(tail -n 1 err)" = '0 survey office: 2 sectors'
+run delete - 'LINE 7 RING 1' --side survey --out - <plain.dsk
+holds side-dash-refused test "$status $(wc -c <out) $(sed -n 2p err)" = "1 0 refused: 23 other side's name"
+same side-dash-no-out delete - 'LINE 7 RING 1' --side ours
+cp samples/one-page.nib outs/one.nib
+same side-nibbles delete outs/one.nib 'LINE 7 RING 1' --side ours --out outs/none
+
+# what stands behind --side and --limit; of two the first counts
+for side in '' Ours OURS SURVEY our surveys s 'survey office' ' ours' --force --help -- $'\x1b'; do
+    run delete saved.dsk 'LINE 7 RING 1' --out outs/none --side "$side"
+    shown=${side:-\'\'}
+    holds "side-word-$(printf %q "$side")" test "$status $(cat out)$(cat err)" = "2 linefiles: ${shown/$'\x1b'/\\x1b} is no side; one is ours or survey"
+done
+for limit in '' abc 12x x12 -1 +1 ' 1' '1 ' 1.5 1,200 0x10 '$10' --force 18446744073709551616 184467440737095516150 99999999999999999999; do
+    shown=${limit:-\'\'}
+    for command in "save saved.dsk NAME 0 nothing" "delete saved.dsk NAME"; do
+        run $command --out outs/none --side ours --limit "$limit"
+        holds "side-limit-${command%% *}-$(printf %q "$limit")" test "$status $(cat out)$(cat err)" = "2 linefiles: $shown is no limit; one is 0 to 18446744073709551615"
+    done
+done
+same side-no-word delete saved.dsk NAME --side
+same side-no-number save saved.dsk NAME 0 nothing --side ours --limit
+same side-no-value save saved.dsk NAME 0 nothing --side --limit 5
+same side-no-out delete saved.dsk NAME --out --side ours
+same side-limit-alone save saved.dsk NAME 0 nothing --limit 5
+same side-delete-limit-alone delete saved.dsk NAME --limit 5
+same side-no-limit save saved.dsk NAME 0 nothing --side survey --out outs/none
+same side-both-wrong save saved.dsk NAME 0 nothing --side we --limit many
+run save saved.dsk NAME 0 nothing --side ours --side survey --limit 200 --limit x --out -
+holds side-twice test "$status $(tail -n 1 err)" = '0 our side: 141 of 200 sectors'
+run delete saved.dsk -- --side
+holds side-behind-end test "$status $(sed -n 2p err)" = '1   no file is named --side'
+run delete --side ours --out outs/none -- saved.dsk --limit
+holds side-limit-behind-end test "$status $(sed -n 2p err)" = '1   no file is named --limit'
+for command in list survey map crossed forecast; do same "option-$command--side" "$command" samples/one-page.dsk --side ours; done
+same option-list--limit list samples/one-page.dsk --limit 40
+for line in 'get samples/one-page.dsk NAME outs/none' 'archive samples/one-page.dsk outs/none' 'check samples/one-page.dsk ring' 'show ring' \
+    'nibblize samples/one-page.dsk outs/none' 'denibblize samples/one-page.nib outs/none'; do
+    run $line --side ours
+    holds "option-${line%% *}--side" test "$status $(cat out err)" = '2 linefiles: this command does not take --side, which save and delete do'
+    run $line --limit 40
+    holds "option-${line%% *}--limit" test "$status $(cat out err)" = '2 linefiles: this command does not take --limit, which save and delete do'
+done
+holds side-usage-nothing-left not test -e outs/none
+
+# by_turns: saves and deletes of both sides by turns. No side is over its limit, and the files of the other stay as they are.
+by_turns() {
+    local turn side name limit other shown
+    cp blank.dsk turns.dsk
+    for turn in {1..24}; do
+        side=ours name="LINE $((turn * 7 % 5))" limit=60 other='^S' shown='our sectors'
+        [ $((turn % 3)) != 0 ] || side=survey name="S $((turn % 4))" limit=40 other='^L' shown='survey office'
+        rm -rf turns-before turns-after
+        mkdir turns-before turns-after
+        run get turns.dsk --all turns-before
+        head -c $((turn * 3571 % 9000)) longest >piece
+        run save turns.dsk "$name" 8192 piece --side $side --limit $limit
+        [ "$status" = 0 ] || head -n 1 err >>turned
+        [ "$status" = 0 ] || run delete turns.dsk "$name" --side $side
+        run get turns.dsk --all turns-after
+        diff <(cd turns-before && sum_of "$other") <(cd turns-after && sum_of "$other") || return 1
+        run survey turns.dsk
+        [ "$(sed -nE "s/^  $shown +//p" out)" -le $limit ] || return 1
+    done
+    run crossed turns.dsk
+    [ "$status" = 0 ] && grep -qx 'refused: 24 over limit' turned && grep -qx 'refused: 22 name taken' turned
+}
+sum_of() { ls | grep "$1" | while IFS= read -r name; do sha256sum "$name"; done; }
+holds side-by-turns by_turns
+
+# as_listed DISK: survey counts for each side the lists and pairs that list shows of its files
+as_listed() {
+    run list "$1"
+    awk '/^Files/ { on = 1 } on && /^  [* ]    [A-Z]/ { side = substr($0, 31, 1) == "S" } on && /^ +list [0-9]+\/[0-9]+ +[0-9]+ pair/ { n[side] += $3 + 1 }
+        END { print n[0] + 0, n[1] + 0 }' out >by-list
+    run survey "$1"
+    sed -nE 's/^  (our sectors|survey office) +//p' out | xargs >by-survey
+    run survey "$1" --json
+    sed -nE 's/^  "(our|survey_office)_sectors": ([0-9]+),$/\2/p' out | xargs >by-json
+    diff by-list by-survey && diff by-list by-json
+}
+for disk in samples/{one-page,several-pages,full,overlong,last-pair,thirteen,same-files,moved-catalog,alike,crossed}.dsk samples/{one-page,thirteen}.nib sided.dsk turns.dsk blank.dsk; do
+    holds "side-as-listed-${disk##*/}" as_listed "$disk"
+done
+rm -rf outs/* turns-before turns-after
+
 # archive, check, show
 same archive-one-page archive samples/one-page.dsk outs/flat.arc
 same archive-one-page-nibbles archive samples/one-page.nib outs/nibbles.arc

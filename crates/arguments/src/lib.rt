@@ -1,6 +1,9 @@
 // The arguments: words and options, the commands, and what is wrong with them. The help text stands in ./linefiles, which answers without the program.
+pub mod decimal;
 pub mod letters;
 
+use decimal::Number;
+use decimal::number_of;
 use libc::ENAMETOOLONG;
 use libc::STDERR_FILENO;
 use screen::TROUBLE;
@@ -56,8 +59,17 @@ pub const OUT: u8 = 9;
 
 pub const FILES: u8 = 10;
 
+pub const SIDE: u8 = 11;
+
+pub const LIMIT: u8 = 12;
+
 // `--`: what stands behind it is a word.
-const END: u8 = 11;
+const END: u8 = 13;
+
+// The sides that --side names: we, and the survey office.
+pub const OURS: u8 = 1;
+
+pub const SURVEY_OFFICE: u8 = 2;
 
 // A word in a cell of a table: zeros behind it. A word that is longer than a cell is none of the table's, and its cell is empty.
 fn cell_of(w: &[u8]) -> [u8; 10] {
@@ -113,6 +125,8 @@ fn option_of(i: usize) -> u8 {
           --empty\0\0\0\
           --out\0\0\0\0\0\
           --files\0\0\0\
+          --side\0\0\0\0\
+          --limit\0\0\0\
           --\0\0\0\0\0\0\0\0",
         &cell,
     )
@@ -131,15 +145,25 @@ fn end_of_options(first: usize) -> usize {
     all
 }
 
-// What stands behind --out is its value, and neither a word nor an option.
+// What stands behind --out, --side or --limit is its value, and neither a word nor an option.
 const VALUE: u8 = 255;
 
-// Argument i stands behind --out.
+fn has_value(option: u8) -> bool {
+    (option == OUT) | ((option == SIDE) | (option == LIMIT))
+}
+
+// Argument i is the value of the option before it, which is no value itself.
 fn is_value(i: usize) -> bool {
-    if i == 0 {
-        return false;
+    let mut at = i;
+    let mut value = false;
+    while 0 < at {
+        if !has_value(option_of(at - 1)) {
+            return value;
+        }
+        value = !value;
+        at -= 1;
     }
-    option_of(i - 1) == OUT
+    value
 }
 
 // The option that argument i is, where the options end at `end`; a value is no option either.
@@ -190,23 +214,52 @@ pub fn has_option(first: usize, option: u8) -> bool {
     false
 }
 
-// The value of --out into buf: its length.
-pub fn out_value(first: usize, buf: &mut [u8]) -> usize {
+// The value of an option into buf: its length. Of an option that is said twice the first counts.
+pub fn value_of(first: usize, option: u8, buf: &mut [u8]) -> usize {
     let all = os::arg_count();
     let end = end_of_options(first);
     let mut at = first;
     while at < all {
-        if option_before(end, at) == VALUE {
-            return os::arg(at, buf);
+        if option_before(end, at) == option {
+            return os::arg(at + 1, buf);
         }
         at += 1;
     }
     0
 }
 
-// --out is said, and nothing stands behind it.
+// The last argument is an option, and its value is missing.
 fn lacks_value(first: usize) -> bool {
-    has_option(first, OUT) & is_value(os::arg_count())
+    let all = os::arg_count();
+    if all == 0 {
+        return false;
+    }
+    has_value(option_before(end_of_options(first), all - 1))
+}
+
+// The side that a word names, 0 for none.
+fn side_of(w: &[u8]) -> u8 {
+    if lists::same(w, b"ours") {
+        return OURS;
+    }
+    if lists::same(w, b"survey") {
+        return SURVEY_OFFICE;
+    }
+    0
+}
+
+// The side that --side says, 0 where it says none.
+pub fn side_said(first: usize) -> u8 {
+    let mut w = io::buffer();
+    let n = value_of(first, SIDE, &mut w);
+    side_of(lists::part(&w, 0, n))
+}
+
+// The limit that --limit says.
+pub fn limit_said(first: usize) -> Number {
+    let mut w = io::buffer();
+    let n = value_of(first, LIMIT, &mut w);
+    number_of(lists::part(&w, 0, n))
 }
 
 // The sectors a track that an option says, 0 where none does.
@@ -398,8 +451,12 @@ pub fn usage(command: u8) -> u8 {
         GET => tell(
             b"get DISK NAME OUT [--empty] [--force] [--13 | --16]\n       linefiles get DISK --all FOLDER [--empty] [--force] [--13 | --16]",
         ),
-        SAVE => tell(b"save DISK NAME ADDRESS FILE [--out OUT [--force]]"),
-        DELETE => tell(b"delete DISK NAME [--out OUT [--force]]"),
+        SAVE => tell(
+            b"save DISK NAME ADDRESS FILE [--side ours|survey --limit N]\n         [--out OUT [--force]]",
+        ),
+        DELETE => tell(
+            b"delete DISK NAME [--side ours|survey [--limit N]]\n         [--out OUT [--force]]",
+        ),
         FORECAST => tell(
             b"forecast DISK [LENGTH...] [--13 | --16]\n       linefiles forecast DISK --files FILE... [--13 | --16]",
         ),
@@ -425,7 +482,7 @@ fn takes(command: u8, option: u8) -> bool {
             | ((command == GET)
                 | ((command == ARCHIVE) | (changes(command) | (NIBBLIZE <= command)))),
         AS_13 | AS_16 => (command != SHOW) & !changes(command),
-        OUT => changes(command),
+        OUT | SIDE | LIMIT => changes(command),
         RAW => (command == LIST) | (command == SHOW),
         JSON => (command == LIST) | (command == SURVEY),
         SVG => command == MAP,
@@ -437,7 +494,7 @@ fn takes(command: u8, option: u8) -> bool {
 
 // The first option that is said and that the command does not take, 0 where there is none.
 fn misplaced(command: u8, first: usize) -> u8 {
-    for option in 1..11u8 {
+    for option in 1..13u8 {
         if has_option(first, option) & !takes(command, option) {
             return option;
         }
@@ -456,8 +513,46 @@ fn tell_option(option: u8) {
         ALL => tell(b"--all, which get does"),
         OUT => tell(b"--out, which save and delete do"),
         FILES => tell(b"--files, which forecast does"),
+        SIDE => tell(b"--side, which save and delete do"),
+        LIMIT => tell(b"--limit, which save and delete do"),
         _ => tell(b"--empty, which get does"),
     }
+}
+
+// Says what is wrong with the value of an option. True.
+fn wrong_value(first: usize, option: u8, why: &[u8]) -> bool {
+    let mut w = io::buffer();
+    let n = value_of(first, option, &mut w);
+    tell(b"linefiles: ");
+    path(STDERR_FILENO, lists::part(&w, 0, n));
+    tell(why);
+    true
+}
+
+// Whether side or limit are said as they cannot be, or one of them is missing. Then this is said.
+fn wrong_side(command: u8, first: usize) -> bool {
+    let sided = has_option(first, SIDE);
+    let limited = has_option(first, LIMIT);
+    if sided & (side_said(first) == 0) {
+        return wrong_value(first, SIDE, b" is no side; one is ours or survey\n");
+    }
+    let limit = limit_said(first);
+    if limited & !limit.good {
+        return wrong_value(
+            first,
+            LIMIT,
+            b" is no limit; one is 0 to 18446744073709551615\n",
+        );
+    }
+    if limited & !sided {
+        tell(b"linefiles: --limit is a side's; --side ours or --side survey says whose\n");
+        return true;
+    }
+    if (command == SAVE) & (sided & !limited) {
+        tell(b"linefiles: --limit N is missing; a side saves within its limit of sectors\n");
+        return true;
+    }
+    false
 }
 
 // Whether an option stands where it says nothing, or two against each other. Then this is said.
@@ -477,5 +572,5 @@ pub fn wrong_options(command: u8, first: usize) -> bool {
         tell(b"linefiles: --13 and --16 are both said; a stream is taken by one of them\n");
         return true;
     }
-    false
+    wrong_side(command, first)
 }

@@ -14,6 +14,8 @@ use outcome::NAME_TAKEN;
 use outcome::NO_SPACE;
 use outcome::NOT_CLEAN;
 use outcome::OFF_SIZE;
+use outcome::OTHER_SIDE;
+use outcome::OVER_LIMIT;
 use outcome::UNWRITABLE_NAME;
 use saving::data_for;
 use saving::lists_for;
@@ -28,6 +30,11 @@ use screen::sums::more;
 use screen::tell;
 use screen::text;
 use screen::text_number;
+use side_report::Caller;
+use side_report::caller_said;
+use side_report::say_held;
+use side_report::tell_limit;
+use side_report::tell_owner;
 use storing::read_front;
 use storing::replace_file;
 use storing::write_file;
@@ -187,11 +194,23 @@ fn tell_space(disk: &[u8], size: usize) {
     say_zeros(STDERR_FILENO, size, spare, b",\n  ");
 }
 
+// What a file takes that is over the limit of the caller's side; of a longer one 32,769 bytes are read.
+fn tell_over(disk: &[u8], caller: Caller, size: usize) {
+    tell_limit(disk, caller);
+    tell(b"the file takes ");
+    sectors_taken(STDERR_FILENO, size, b" and ");
+    if 32768 < size {
+        tell(b", or more");
+    }
+}
+
 // Says why a file is not saved or deleted.
-fn tell_why(disk: &[u8], why: u8, name: &[u8], size: usize) {
+fn tell_why(disk: &[u8], caller: Caller, why: u8, name: &[u8], size: usize) {
     tell(b"\n  ");
     match why {
         UNWRITABLE_NAME => tell_name(name),
+        OTHER_SIDE => tell_owner(name),
+        OVER_LIMIT => tell_over(disk, caller, size),
         NAME_TAKEN => {
             tell(b"a file is named ");
             names::name(STDERR_FILENO, name);
@@ -226,12 +245,12 @@ pub fn refuse_disk(disk: &[u8], why: u8) -> u8 {
     REFUSED
 }
 
-fn refuse(disk: &[u8], why: u8, name: &[u8], size: usize) -> u8 {
+fn refuse(disk: &[u8], caller: Caller, why: u8, name: &[u8], size: usize) -> u8 {
     if (why < 7) | (why == NOT_CLEAN) {
         return refuse_disk(disk, why);
     }
     refusal(STDERR_FILENO, why);
-    tell_why(disk, why, name, size);
+    tell_why(disk, caller, why, name, size);
     REFUSED
 }
 
@@ -247,21 +266,30 @@ fn tell_saved(fd: i32, name: &[u8], at: u16, size: usize) {
     text(fd, b"\n");
 }
 
-// A copy of the disk with a file saved to it: the number.
-fn save_to(image: &mut [u8], disk: &[u8], name: &[u8], at: u16, data: &[u8]) -> u8 {
+// A copy of the disk with a file saved to it, for a side where one calls: the number.
+fn save_to(image: &mut [u8], disk: &[u8], caller: Caller, name: &[u8], at: u16, data: &[u8]) -> u8 {
     lists::copy_at(disk, image, 0);
-    saving::save(image, name, at, data)
+    if !caller.sided {
+        return saving::save(image, name, at, data);
+    }
+    let side = caller.side;
+    saving::save_for(image, side, caller.limit, name, at, data)
 }
 
-// A copy of the disk with a file deleted from it: the number.
-fn delete_from(image: &mut [u8], disk: &[u8], name: &[u8]) -> u8 {
+// A copy of the disk with a file deleted from it, for a side where one calls: the number.
+fn delete_from(image: &mut [u8], disk: &[u8], caller: Caller, name: &[u8]) -> u8 {
     lists::copy_at(disk, image, 0);
-    saving::delete(image, name)
+    if !caller.sided {
+        return saving::delete(image, name);
+    }
+    let side = caller.side;
+    saving::delete_for(image, side, caller.limit, name)
 }
 
 // Saves the bytes to the disk, and writes it.
 fn save_bytes(
     disk: &[u8],
+    caller: Caller,
     shown: &[u8],
     at: u16,
     data: &[u8],
@@ -273,20 +301,22 @@ fn save_bytes(
     let k = unescape(shown, &mut wanted);
     let name = lists::part(&wanted, 0, k);
     let mut image = disk_space();
-    let why = save_to(&mut image, disk, name, at, data);
+    let why = save_to(&mut image, disk, caller, name, at, data);
     if why != 0 {
-        return refuse(disk, why, name, data.len());
+        return refuse(disk, caller, why, name, data.len());
     }
     let status = write_disk(&image, to, over, force);
     if status == GOOD {
         tell_saved(notes_to(to), name, at, data.len());
+        say_held(notes_to(to), &image, caller);
     }
     status
 }
 
-// Saves a file to a disk; the disk goes to `to`, over the file there where that is said.
+// Saves a file to a disk, for the side that the options from `first` on say; the disk goes to `to`, over the file there where that is said.
 pub fn save(
     disk: &[u8],
+    first: usize,
     shown: &[u8],
     at: &[u8],
     file: &[u8],
@@ -311,6 +341,7 @@ pub fn save(
     }
     save_bytes(
         disk,
+        caller_said(first),
         shown,
         a.value,
         lists::part(&data, 0, l.length),
@@ -320,25 +351,31 @@ pub fn save(
     )
 }
 
-// Deletes a file from a disk; the disk goes to `to`, over the file there where that is said.
-pub fn delete(disk: &[u8], shown: &[u8], to: &[u8], over: bool, force: bool) -> u8 {
+// What was deleted.
+fn tell_deleted(fd: i32, name: &[u8]) {
+    text(fd, b"deleted ");
+    names::name(fd, name);
+    text(fd, b"\n");
+}
+
+// Deletes a file from a disk, for the side that the options from `first` on say; the disk goes to `to`, over the file there where that is said.
+pub fn delete(disk: &[u8], first: usize, shown: &[u8], to: &[u8], over: bool, force: bool) -> u8 {
     if is_older(disk) {
         return REFUSED;
     }
+    let caller = caller_said(first);
     let mut wanted = [0u8; 31];
     let k = unescape(shown, &mut wanted);
     let name = lists::part(&wanted, 0, k);
     let mut image = disk_space();
-    let why = delete_from(&mut image, disk, name);
+    let why = delete_from(&mut image, disk, caller, name);
     if why != 0 {
-        return refuse(disk, why, name, 0);
+        return refuse(disk, caller, why, name, 0);
     }
     let status = write_disk(&image, to, over, force);
     if status == GOOD {
-        let fd = notes_to(to);
-        text(fd, b"deleted ");
-        names::name(fd, name);
-        text(fd, b"\n");
+        tell_deleted(notes_to(to), name);
+        say_held(notes_to(to), &image, caller);
     }
     status
 }

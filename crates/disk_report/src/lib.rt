@@ -15,6 +15,8 @@ use screen::right;
 use screen::say;
 use screen::text_number;
 use screen::text_place;
+use sides::Side;
+use sides::count_held;
 
 // Space for the longest archive, 4,096 blocks.
 fn space() -> [u8; 1048576] {
@@ -161,6 +163,29 @@ fn survey_lines(s: files::DiskSurvey) {
     survey_line(b"\n  links followed", s.links);
 }
 
+// How many sectors each side holds.
+struct Shares {
+    ours: u64,
+    survey: u64,
+}
+
+// Those of a disk; nothing is counted where it is refused.
+fn shares_of(disk: &[u8], refusal: u8) -> Shares {
+    if refusal != 0 {
+        return Shares { ours: 0, survey: 0 };
+    }
+    let per = disk::sectors_of(disk);
+    Shares {
+        ours: count_held(disk, per, Side::Ours),
+        survey: count_held(disk, per, Side::Survey),
+    }
+}
+
+fn share_lines(held: Shares) {
+    survey_line(b"\n  our sectors   ", held.ours);
+    survey_line(b"\n  survey office ", held.survey);
+}
+
 fn holder_lines(h: HolderCounts) -> u8 {
     survey_line(b"\n  unheld sectors", h.unheld as u64);
     survey_line(b"\n  held once     ", h.held_once as u64);
@@ -199,6 +224,11 @@ fn clean_value(known: bool, clean: bool) {
     json::known(false, 0);
 }
 
+fn share_keys(known: bool, held: Shares) {
+    survey_key(b"our_sectors", known, held.ours);
+    survey_key(b"survey_office_sectors", known, held.survey);
+}
+
 fn holder_keys(known: bool, h: HolderCounts) -> u8 {
     survey_key(b"unheld", known, h.unheld as u64);
     survey_key(b"held_once", known, h.held_once as u64);
@@ -210,31 +240,43 @@ fn holder_keys(known: bool, h: HolderCounts) -> u8 {
 }
 
 // The object of a disk, or of none: its values are null where there is a refusal.
-fn survey_object(refusal: u8, s: files::DiskSurvey, h: HolderCounts) -> u8 {
+fn survey_object(refusal: u8, s: files::DiskSurvey, h: HolderCounts, held: Shares) -> u8 {
     json::refusal(refusal);
     survey_keys(refusal == 0, s);
+    share_keys(refusal == 0, held);
     holder_keys(refusal == 0, h)
 }
 
 // A disk that a stream does not hold: nothing is surveyed.
 pub fn none_surveyed(refusal: u8) {
-    survey_object(refusal, files::survey(b""), holders::holders(b""));
+    survey_object(
+        refusal,
+        files::survey(b""),
+        holders::holders(b""),
+        shares_of(b"", refusal),
+    );
 }
 
-fn show_survey(s: files::DiskSurvey, h: HolderCounts, object: bool) -> u8 {
+fn show_survey(s: files::DiskSurvey, h: HolderCounts, held: Shares, object: bool) -> u8 {
     if object {
-        return survey_object(s.refusal, s, h);
+        return survey_object(s.refusal, s, h, held);
     }
     if s.refusal != 0 {
         return GOOD;
     }
     survey_lines(s);
+    share_lines(held);
     holder_lines(h)
 }
 
 pub fn survey(disk: &[u8], object: bool) -> u8 {
     let s = files::survey(disk);
-    let status = show_survey(s, holders::holders(disk), object);
+    let status = show_survey(
+        s,
+        holders::holders(disk),
+        shares_of(disk, s.refusal),
+        object,
+    );
     if s.refusal != 0 {
         return refuse(disk, s.refusal);
     }

@@ -29,12 +29,12 @@ use arguments::has_long;
 use arguments::has_option;
 use arguments::has_words;
 use arguments::is_dash;
-use arguments::out_value;
 use arguments::out_word;
 use arguments::said;
 use arguments::unknown_command;
 use arguments::unknown_option;
 use arguments::usage;
+use arguments::value_of;
 use arguments::word;
 use arguments::wrong_options;
 use file_walk::refuse;
@@ -193,7 +193,7 @@ fn nibblize(disk: &[u8], first: usize) -> u8 {
 // Where a changed disk goes: what stands behind --out, or where it came from. Its length.
 fn way_out(from: &[u8], first: usize, to: &mut [u8]) -> usize {
     if has_option(first, OUT) {
-        return out_value(first, to);
+        return value_of(first, OUT, to);
     }
     lists::copy_at(from, to, 0);
     from.len()
@@ -210,6 +210,7 @@ fn save(from: &[u8], disk: &[u8], first: usize) -> u8 {
     let m = way_out(from, first, &mut to);
     changing::save(
         disk,
+        first,
         lists::part(&name, 0, n),
         lists::part(&at, 0, k),
         lists::part(&file, 0, l),
@@ -226,6 +227,7 @@ fn delete(from: &[u8], disk: &[u8], first: usize) -> u8 {
     let m = way_out(from, first, &mut to);
     changing::delete(
         disk,
+        first,
         lists::part(&name, 0, n),
         lists::part(&to, 0, m),
         !has_option(first, OUT),
@@ -264,7 +266,7 @@ fn out_is_dash(command: u8, first: usize) -> bool {
         return has_dash(first, out_word(command, first));
     }
     let mut w = io::buffer();
-    let n = out_value(first, &mut w);
+    let n = value_of(first, OUT, &mut w);
     is_dash(lists::part(&w, 0, n))
 }
 

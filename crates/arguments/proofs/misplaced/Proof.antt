@@ -4,10 +4,10 @@ use Rattle.arguments.proofs.misplaced.Statement.{statement}
 use Rattle.arguments.proofs.misplaced.Tie as tie
 
 abbrev Inv-loop : tie.InvT-loop
-Inv-loop command first option₀ option = (1 ≤ option) × (option ≤ 11)
+Inv-loop command first option₀ option = (1 ≤ option) × (option ≤ 13)
 
 abbrev μ-loop : tie.MeasureT-loop
-μ-loop command first option₀ option = 11 - option
+μ-loop command first option₀ option = 13 - option
 
 pub misplaced-spec : {M : Type 1} → statement M
 misplaced-spec =
