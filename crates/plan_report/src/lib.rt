@@ -1,6 +1,6 @@
 // A plan of saves told ahead, for people: what each takes of a disk, which would end in 21 and why, and the sums. Nothing is written.
-mod length;
-
+use arguments::decimal::Number;
+use arguments::decimal::number_of;
 use arguments::word;
 use arguments::words_behind;
 use changing::data_space;
@@ -12,8 +12,6 @@ use changing::say_zeros;
 use changing::sectors_for;
 use changing::sectors_taken;
 use changing::spare_sectors;
-use length::Length;
-use length::length_of;
 use libc::STDERR_FILENO;
 use libc::STDOUT_FILENO;
 use outcome::PLAN_LONG;
@@ -60,8 +58,8 @@ fn front(lengths: &[u64], n: usize) -> &[u64] {
 }
 
 // The length that a word says. Where it says none, this is told.
-fn said_length(w: &[u8]) -> Length {
-    let l = length_of(w);
+fn said_length(w: &[u8]) -> Number {
+    let l = number_of(w);
     if !l.good {
         tell(b"linefiles: ");
         names::path(STDERR_FILENO, w);
@@ -73,17 +71,17 @@ fn said_length(w: &[u8]) -> Length {
 }
 
 // The length of a file; of one that is longer than any that is saved, one byte more than the longest. Where it cannot be read, this is told.
-fn file_length(path: &[u8]) -> Length {
+fn file_length(path: &[u8]) -> Number {
     let mut data = data_space();
     let l = read_front(path, &mut data);
-    Length {
+    Number {
         good: l.good,
         value: l.length as u64,
     }
 }
 
 // Length k of the plan, which stands behind command and disk.
-fn length_at(first: usize, k: usize, files: bool) -> Length {
+fn length_at(first: usize, k: usize, files: bool) -> Number {
     let mut w = io::buffer();
     let n = word(first, after(2, k), &mut w);
     if files {
