@@ -1,6 +1,6 @@
 -- What a search finds: a sector of the disk, free in the map, on an open track. Assumes nothing.
-use mathlib.Core.Path.{_≡_, refl, sym}
-use mathlib.Core.Bool.{Bool, true, false, not, _&&_}
+use mathlib.Core.Path.{_≡_, refl, sym, _∙_}
+use mathlib.Core.Bool.{Bool, true, false, not, _&&_, cond}
 use mathlib.Core.List.{List, [], _∷_}
 use mathlib.Core.Option.{Option, none, some}
 use Prim.Native.Nat.{ℕ, zero, suc, _+_, _-_, _<_, _≤_}
@@ -22,7 +22,7 @@ use Rattle.disk.specs.Disk.{place, byteOf, onDisk}
 use Rattle.disk.specs.Vtoc.{vtoc}
 use Rattle.disk.proofs.Places.{on-track, on-sector, is-on}
 use Rattle.holders.specs.Holders.{free}
-use Rattle.amend.specs.Lines.{firstOf, found}
+use Rattle.amend.specs.Lines.{firstOf, found, lastOf}
 use Rattle.amend.specs.Search.{Visit, Spot, upFrom, downFrom, toEdge, opposite, route, directionOf, trackOf, spotsOf, spots, openTrack, takable, seek}
 
 -- ---- the first of a list
@@ -48,6 +48,26 @@ pub first-same : {A : Type 0} (f g : A → Bool) {xs : List A} → Every (λ (x 
 unfolding firstOf
 first-same f g Every.none = refl
 first-same f g (Every.more e es) = rw (e, first-same f g es) refl
+
+-- .. and the same last
+abbrev lastStep : {A : Type 0} → Bool → A → Option A → Option A
+lastStep b x (some y) = some y
+lastStep b x none = cond b (some x) none
+
+last-step : {A : Type 0} (f : A → Bool) (x : A) (xs : List A) → lastOf f (x ∷ xs) ≡ lastStep (f x) x (lastOf f xs)
+unfolding lastOf
+last-step f x xs = go (lastOf f xs) refl
+  where
+    go : (o : Option _) → lastOf f xs ≡ o → lastOf f (x ∷ xs) ≡ lastStep (f x) x o
+    go none h = rw (h, lastOf) refl
+    go (some y) h = rw (h, lastOf) refl
+
+pub last-same : {A : Type 0} (f g : A → Bool) {xs : List A} → Every (λ (x : A). f x ≡ g x) xs → lastOf f xs ≡ lastOf g xs
+unfolding lastOf
+last-same f g Every.none = refl
+last-same f g (Every.more {x} {xs} q h) =
+    let i = last-same f g h in
+    last-step f x xs ∙ (λ j. lastStep (q j) x (i j)) ∙ sym (last-step g x xs)
 
 -- nothing was found
 pub found-none : {A : Type 0} (o : Option A) (r q : Refusal) → found o r ≡ refused q → o ≡ none

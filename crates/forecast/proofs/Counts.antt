@@ -11,9 +11,9 @@ use Rattle.lists.specs.Every.{Every}
 use Rattle.lists.specs.Every
 use Rattle.lists.specs.Select.{any, filter}
 use Rattle.lists.proofs.Split.{by-test}
-use Rattle.lists.proofs.Every.{every-imp}
-use Rattle.lists.proofs.Select.{filter-yes, filter-no, filter-append}
-use Rattle.lists.proofs.Chunks.{split-every, flatMap-append}
+use Rattle.lists.proofs.Every.{every-imp, parted}
+use Rattle.lists.proofs.Select.{filter-yes, filter-no, filter-append, filter-same}
+use Rattle.lists.proofs.Chunks.{split-every, flatMap-append, length-joined}
 use Rattle.outcome.specs.Outcome.{given, each}
 use Rattle.outcome.proofs.Outcome.{each-cons, each-also}
 use Rattle.disk.specs.declared.Place.{Place}
@@ -29,25 +29,15 @@ use Rattle.amend.proofs.Change.{each-split, each-join}
 use Rattle.amend.proofs.Kept.{Changed, parts-of, changed-pages}
 use Rattle.forecast.specs.Claims.{Used, listsAt, used}
 
--- what holds of the first, and of those behind it
-pub parted : {A : Type 0} {P : A → Type 0} {x : A} {xs : List A} → Every P (x ∷ xs) → P x × Every P xs
-parted (Every.more p ps) = (p, ps)
-
 -- ---- one element of a list that passes now
 module _ (f g : ℕ → Bool) where
-  -- two tests that agree on a list
-  filter-same : {xs : List ℕ} → Every (λ (x : ℕ). g x ≡ f x) xs → filter g xs ≡ filter f xs
-  unfolding filter
-  filter-same Every.none = refl
-  filter-same (Every.more q h) = rw (q, filter-same h) refl
-
   -- one passes more
   one-more : (a : List ℕ) (x : ℕ) (b : List ℕ) → Every (λ (y : ℕ). g y ≡ f y) a → Every (λ (y : ℕ). g y ≡ f y) b → f x ≡ false → g x ≡ true
       → length (filter g (a ++ x ∷ b)) ≡ suc (length (filter f (a ++ x ∷ b)))
   one-more a x b p q u v =
       let l = length-append (filter f a) (x ∷ filter f b) in
       let m = length-append (filter f a) (filter f b) in
-      rw (filter-append g a (x ∷ b), filter-append f a (x ∷ b), filter-yes g x b v, filter-no f x b u, filter-same p, filter-same q) (omega arith)
+      rw (filter-append g a (x ∷ b), filter-append f a (x ∷ b), filter-yes g x b v, filter-no f x b u, filter-same g f p, filter-same g f q) (omega arith)
 
 -- some are counted where one passes
 pub some-pass : (f : ℕ → Bool) (xs : List ℕ) → ltb 0 (length (filter f xs)) ≡ any f xs
@@ -68,17 +58,6 @@ joined-length F ta t tb =
     let x = length-append (flatMap F A) (flatMap F t ++ flatMap F B) in
     let y = length-append (flatMap F t) (flatMap F B) in
     rw (e, flatMap-append F A (t ++ B), flatMap-append F t B) (omega arith)
-
--- .. and the lists
-flat-length : (ta : List (List Place)) (t : List Place) (tb : List (List Place))
-    → length (flatMap (λ u. u) (ta ++ t ∷ tb)) ≡ length (flatMap (λ (u : List Place). u) ta) + length t + length (flatMap (λ (u : List Place). u) tb)
-unfolding flatMap
-flat-length ta t tb =
-    let A : List Place = flatMap (λ u. u) ta in
-    let B : List Place = flatMap (λ u. u) tb in
-    let x = length-append A (t ++ B) in
-    let y = length-append t B in
-    rw (flatMap-append (λ (u : List Place). u) ta (t ∷ tb)) (omega arith)
 
 -- ---- lines whose entries and sectors stay
 module _ (n : ℕ) (d e : List ℕ) where
@@ -200,8 +179,8 @@ module _ (n : ℕ) (d e : List ℕ) (r : Reading n d) (a : List ℕ) (x : ℕ) (
       let d₄ = ap length (lb .1) in
       let data′ : length (flatMap (pairsOf n e) (flatMap (λ t. t) (s .0 ++ new ∷ s .2)))
       ≡ length (flatMap (pairsOf n d) (flatMap (λ t. t) (s .0 ++ [] ∷ s .2))) + length (flatMap (pairsOf n e) new) = omega arith in
-      let l₁ = flat-length (s .0) new (s .2) in
-      let l₂ = flat-length (s .0) [] (s .2) in
+      let l₁ = length-joined (s .0) new (s .2) in
+      let l₂ = length-joined (s .0) [] (s .2) in
       let list′ : length (flatMap (λ t. t) (s .0 ++ new ∷ s .2)) ≡ length (flatMap (λ t. t) (s .0 ++ [] ∷ s .2)) + length new = omega arith in
       let m = more-used not-used now in
       let line′ : length (filter (inUse e) (starts n (r .ps))) ≡ length (filter (inUse d) (starts n (r .ps))) + 1 = omega arith in

@@ -41,7 +41,8 @@ use Rattle.amend.proofs.Amending.{reading-of, size-of, clean-of}
 use Rattle.amend.proofs.Agree.{Agree, Both, for-two}
 use Rattle.forecast.specs.Forecast.{Forecast, noSaves, goesOn, endsIn21, tried, ahead, openLines, forecast}
 use Rattle.forecast.specs.Claims.{Planned, saveOf, lengthsOf, NotNamed, Allowed, answersTo, Used, used, Foretold, ForecastingOf, Forecasting}
-use Rattle.forecast.proofs.Counts.{parted, some-pass, used-given, less-open, more-lists}
+use Rattle.lists.proofs.Every.{parted}
+use Rattle.forecast.proofs.Counts.{some-pass, used-given, less-open, more-lists}
 
 -- ---- what a save does to the claim
 -- so much more is used after a save of k bytes

@@ -8,6 +8,10 @@ use Rattle.lists.specs.Fill.{below}
 use Rattle.lists.proofs.Laws.{length-tab, getD-tab}
 use Rattle.lists.proofs.Chunks.{every-append, split-every}
 
+-- of the first, and of those behind it
+pub parted : {A : Type 0} {P : A → Type 0} {x : A} {xs : List A} → Every P (x ∷ xs) → P x × Every P xs
+parted (more p ps) = (p, ps)
+
 -- it holds of element i
 pub every-at : {A : Type 0} {P : A → Type 0} {xs : List A} (z : A) → Every P xs → (i : ℕ) → i < length xs → P (getD xs i z)
 every-at z none i h = absurd (omega arith)

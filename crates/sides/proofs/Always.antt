@@ -14,10 +14,11 @@ use Rattle.lists.specs.Every
 use Rattle.lists.specs.Fill.{Bytes, put}
 use Rattle.lists.specs.Select.{any, among}
 use Rattle.lists.proofs.Split.{by-test, both-true}
+use Rattle.lists.proofs.Select.{any-same}
 use Rattle.outcome.specs.declared.Refusal.the-variants.{NotOnRoll, NoSpace}
 use Rattle.outcome.specs.Refusal.{code}
 use Rattle.outcome.specs.Outcome.{Outcome, refused, given, _>>=_, _>>_, each, number}
-use Rattle.outcome.proofs.Outcome.{each-cons}
+use Rattle.outcome.proofs.Outcome.{each-cons, each-same}
 use Rattle.disk.specs.declared.Place.{Place}
 use Rattle.disk.specs.Disk.{start, numberOf, sectors}
 use Rattle.disk.specs.Vtoc.{vtoc}
@@ -39,42 +40,18 @@ use Rattle.lists.proofs.Every.{every-imp}
 use Rattle.amend.proofs.Listed.{first-split, last-split, line-name, each-any}
 use Rattle.amend.proofs.Deletes.{isLine, line-of}
 use Rattle.amend.proofs.Answers.{opened}
+use Rattle.amend.proofs.Amending.{reading-of, size-of, clean-of}
 use Rattle.amend.proofs.Saves.{whole-file, open-line}
-use Rattle.amend.proofs.Seeks.{first-same}
+use Rattle.amend.proofs.Seeks.{first-same, last-same}
 use Rattle.amend.proofs.Agree.{Agree, Both, agree-put, for-two, freed-two, written-two}
 use Rattle.sides.specs.declared.Side.{Side}
 use Rattle.sides.specs.Sides.{other, belongs, ofSide, ownAt, ownSectors, heldBy, within, savedFor, deletedFor, Call, callOf, answer}
 use Rattle.sides.specs.Claims.{ownData, DifferIn, AlikeAlways, BytesIn}
-use Rattle.sides.proofs.Own.{each-same, own-is}
-use Rattle.sides.proofs.Steps.{effect, size-of, reading-of, clean-of}
+use Rattle.sides.proofs.Own.{own-is}
+use Rattle.sides.proofs.Steps.{effect}
 use Rattle.sides.proofs.Alike.{chain, undo, save-chain, delete-chain}
 use Rattle.sides.proofs.Data.{divide, data-is, data-stays}
 use Rattle.sides.proofs.Twin.{vtoc-apart, entries-same, pages-same, holds-same, twin}
-
--- ---- tests that agree on a list
-any-same : {A : Type 0} (f g : A → Bool) {xs : List A} → Every (λ (x : A). f x ≡ g x) xs → any f xs ≡ any g xs
-unfolding any
-any-same f g Every.none = refl
-any-same f g (Every.more q h) = rw (q, any-same f g h) refl
-
-abbrev lastStep : {A : Type 0} → Bool → A → Option A → Option A
-lastStep b x (some y) = some y
-lastStep b x none = cond b (some x) none
-
-last-step : {A : Type 0} (f : A → Bool) (x : A) (xs : List A) → lastOf f (x ∷ xs) ≡ lastStep (f x) x (lastOf f xs)
-unfolding lastOf
-last-step f x xs = go (lastOf f xs) refl
-  where
-    go : (o : Option _) → lastOf f xs ≡ o → lastOf f (x ∷ xs) ≡ lastStep (f x) x o
-    go none h = rw (h, lastOf) refl
-    go (some y) h = rw (h, lastOf) refl
-
-last-same : {A : Type 0} (f g : A → Bool) {xs : List A} → Every (λ (x : A). f x ≡ g x) xs → lastOf f xs ≡ lastOf g xs
-unfolding lastOf
-last-same f g Every.none = refl
-last-same f g (Every.more {x} {xs} q h) =
-    let i = last-same f g h in
-    last-step f x xs ∙ (λ j. lastStep (q j) x (i j)) ∙ sym (last-step g x xs)
 
 -- ---- two answers: refused alike, or disks that agree
 abbrev Twins : ℕ → (ℕ → Type 0) → Outcome (List ℕ) → Outcome (List ℕ) → Type 0
@@ -292,7 +269,7 @@ module _ (n : ℕ) (some′ : 0 < n) (few : n ≤ 16) (d e : List ℕ) (c : Clea
 pub twin-clean : (n : ℕ) (some′ : 0 < n) (few : n ≤ 16) (d e : List ℕ) → Clean n d → Bytes e → (s : Side) → (ps : List Place) → ownData n d s ≡ given ps
     → DifferIn n ps d e → Clean n e
 twin-clean n some′ few d e c b s ps h diff =
-    let r = reading-of n some′ few d c in
+    let r = reading-of n some′ few d c .0 in
     let D = divide n d s (starts n (r .ps)) (r .us) (r .holds) in
     let q : ps ≡ flatMap (λ t. t) (D .data′) = given-same h (data-is n d s (r .ps) (D .data′) (r .paged) (D .dataIs)) in
     clean-of n some′ few e b
@@ -301,7 +278,7 @@ twin-clean n some′ few d e c b s ps h diff =
 pub always-is : (n : ℕ) (some′ : 0 < n) (few : n ≤ 16) (d e : List ℕ) → Clean n d → (a : Call) → BytesIn a → (ps : List Place) → ownData n d (other (a .side)) ≡ given ps
     → DifferIn n ps d e → AlikeAlways n ps d e a
 always-is n some′ few d e c a b ps h diff =
-    let r = reading-of n some′ few d c in
+    let r = reading-of n some′ few d c .0 in
     let w = op-twins n some′ few d e c r (a .side) ps h diff (a .limit) (a .op) in
     let k = twins-kept d e (answer n d a) (answer n e a) (agree n some′ few d e c r (a .side) ps h diff) w in
     record {

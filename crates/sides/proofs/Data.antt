@@ -11,7 +11,7 @@ use Rattle.lists.specs.Every
 use Rattle.lists.proofs.Split.{by-test, both-true}
 use Rattle.lists.proofs.Chunks.{every-append}
 use Rattle.outcome.specs.Outcome.{Outcome, given, _>>=_, each}
-use Rattle.outcome.proofs.Outcome.{each-cons}
+use Rattle.outcome.proofs.Outcome.{each-cons, each-same}
 use Rattle.disk.specs.declared.Place.{Place}
 use Rattle.disk.specs.Disk.{numberOf}
 use Rattle.catalog.specs.Catalog.{Entry, live, shown, entryFrom, pages}
@@ -28,7 +28,8 @@ use Rattle.amend.proofs.Kept.{Changed, parts-of}
 use Rattle.sides.specs.declared.Side.{Side}
 use Rattle.sides.specs.Sides.{belongs, ofSide}
 use Rattle.sides.specs.Claims.{dataAt, ownData}
-use Rattle.sides.proofs.Own.{each-same, heads, pages-then, alikes}
+use Rattle.lists.proofs.Every.{parted}
+use Rattle.sides.proofs.Own.{pages-then, alikes}
 
 module _ (n : ℕ) (d : List ℕ) where
   -- lists and their pairs
@@ -100,7 +101,7 @@ module _ (n : ℕ) (d : List ℕ) where
               let f = l .4 k in
               let g = i .sum k in
               ap (λ (v : List (List Place)). held n (flatMap (λ t. t) v) k) (c .4) ∙ omega arith;
-          part = λ e. let v = heads (subst (Every (On n)) (c .4) e) in Every.more (l .5 (v .0)) (i .part (v .1));
+          part = λ e. let v = parted (subst (Every (On n)) (c .4) e) in Every.more (l .5 (v .0)) (i .part (v .1));
         }
       where
         one : {D : Type 0} (g : ℕ → Outcome D) (w : D) (l : List D) → g y ≡ given w → each g ys ≡ given l → each g (y ∷ ys) ≡ given (w ∷ l)
@@ -136,7 +137,7 @@ module _ (n : ℕ) (d e : List ℕ) (s : Side) where
   data-lines us Every.none a h = Every.none
   data-lines us (Every.more {x} {xs} q qs) a h =
       let c = each-cons (lineHolds n d) x xs us h in
-      let v = heads (rw (c .4) at a) in
+      let v = parted (rw (c .4) at a) in
       Every.more (data-line x (c .0) q (v .0) (c .2)) (data-lines (c .1) qs (v .1) (c .3))
 
 module _ (n : ℕ) (d e : List ℕ) (r : Reading n d) (a : List ℕ) (x : ℕ) (b : List ℕ) (c : Changed n d e r a x b) (s : Side)

@@ -9,10 +9,10 @@ use Rattle.lists.specs.Every.{Every}
 use Rattle.lists.specs.Every
 use Rattle.lists.specs.Select.{filter}
 use Rattle.lists.proofs.Split.{by-test}
-use Rattle.lists.proofs.Select.{filter-no, filter-append, filter-every}
-use Rattle.lists.proofs.Chunks.{every-append, split-every, flatMap-append}
+use Rattle.lists.proofs.Select.{filter-no, filter-append, filter-every, filter-same}
+use Rattle.lists.proofs.Chunks.{every-append, split-every, length-joined}
 use Rattle.outcome.specs.Outcome.{Outcome, given, _>>=_, each}
-use Rattle.outcome.proofs.Outcome.{each-cons, each-also}
+use Rattle.outcome.proofs.Outcome.{each-cons, each-also, each-same}
 use Rattle.disk.specs.declared.Place.{Place}
 use Rattle.catalog.specs.Catalog.{Entry, live, entryFrom, pages}
 use Rattle.holders.specs.Holders.{sectorsOf}
@@ -23,35 +23,10 @@ use Rattle.amend.proofs.Reading.{Reading, given-same}
 use Rattle.amend.proofs.Change.{each-split, each-join}
 use Rattle.amend.proofs.Kept.{Changed, parts-of, changed-pages}
 use Rattle.amend.proofs.Mid.{LineKept}
-use Rattle.lists.proofs.Every.{every-flatMap, every-imp}
+use Rattle.lists.proofs.Every.{parted, every-flatMap, every-imp}
 use Rattle.sides.specs.declared.Side.{Side}
 use Rattle.sides.specs.Sides.{ofSide, ownLines, ownAt, ownSectors, heldBy}
 use Rattle.sides.specs.Claims.{KeptFor}
-
--- two rules that agree on a list
-pub each-same : {A B : Type 0} (f g : A → Outcome B) {xs : List A} → Every (λ (x : A). f x ≡ g x) xs → each f xs ≡ each g xs
-unfolding each
-each-same f g Every.none = refl
-each-same f g (Every.more q h) = rw (q, each-same f g h) refl
-
-pub filter-same : {A : Type 0} (f g : A → Bool) {xs : List A} → Every (λ (x : A). f x ≡ g x) xs → filter f xs ≡ filter g xs
-unfolding filter
-filter-same f g Every.none = refl
-filter-same f g (Every.more q h) = rw (q, filter-same f g h) refl
-
-pub heads : {A : Type 0} {P : A → Type 0} {x : A} {xs : List A} → Every P (x ∷ xs) → P x × Every P xs
-heads (Every.more h t) = (h, t)
-
--- joined lists, one of them between the others
-pub flat-length : (ta : List (List Place)) (t : List Place) (tb : List (List Place))
-    → length (flatMap (λ u. u) (ta ++ t ∷ tb)) ≡ length (flatMap (λ (u : List Place). u) ta) + length t + length (flatMap (λ (u : List Place). u) tb)
-unfolding flatMap
-flat-length ta t tb =
-    let A : List Place = flatMap (λ u. u) ta in
-    let B : List Place = flatMap (λ u. u) tb in
-    let x = length-append A (t ++ B) in
-    let y = length-append t B in
-    rw (flatMap-append (λ (u : List Place). u) ta (t ∷ tb)) (omega arith)
 
 -- ---- one disk
 module _ (n : ℕ) (d : List ℕ) (s : Side) where
@@ -95,7 +70,7 @@ module _ (n : ℕ) (d : List ℕ) (s : Side) where
   own-every {P} (y ∷ ys) us ts h k e =
       let c = each-cons (lineHolds n d) y ys us h in
       let f = each-cons (ownAt n d s) y ys ts k in
-      let v = heads (rw (c .4) at e) in
+      let v = parted (rw (c .4) at e) in
       let z : f .0 ≡ cond (ofSide s (entryFrom d y)) (c .0) [] = given-same (f .2) (own-is y (c .0) (c .2)) in
       subst (Every (Every P)) (sym (f .4)) (Every.more (subst (Every P) (sym z) (pick (ofSide s (entryFrom d y)) (c .0) (v .0))) (own-every ys (c .1) (f .1) (c .3) (f .3) (v .1)))
     where
@@ -123,7 +98,7 @@ module _ (n : ℕ) (d e : List ℕ) (s : Side) where
   own-lines us Every.none a h = Every.none
   own-lines us (Every.more {x} {xs} q qs) a h =
       let c = each-cons (lineHolds n d) x xs us h in
-      let v = heads (rw (c .4) at a) in
+      let v = parted (rw (c .4) at a) in
       Every.more (own-line x (c .0) q (v .0) (c .2)) (own-lines (c .1) qs (v .1) (c .3))
 
 -- ---- one line changed
@@ -135,7 +110,7 @@ module _ (n : ℕ) (d e : List ℕ) (r : Reading n d) (a : List ℕ) (x : ℕ) (
   alikes =
       let p = parts-of n d e r a x b (c .split) in
       let w = split-every (p .ua) (rw (p .usIs) at (c .alike)) in
-      (w .0, heads (w .1) .1)
+      (w .0, parted (w .1) .1)
 
   pub own-before : Every (λ (y : ℕ). ownAt n e s y ≡ ownAt n d s y) a
   own-before = let p = parts-of n d e r a x b (c .split) in own-lines n d e s (p .ua) (c .before) (alikes .0) (p .holdsA)
@@ -198,6 +173,6 @@ module _ (n : ℕ) (d e : List ℕ) (r : Reading n d) (a : List ℕ) (x : ℕ) (
       let z : ownSectors n e s ≡ given (flatMap (λ t. t) (p .0 ++ new ∷ p .2)) = sectors-are n e s (r .ps) (p .0 ++ new ∷ p .2) pages-then (ap (each (ownAt n e s)) (c .split) ∙ j) in
       let v : k ≡ length (flatMap (λ t. t) (p .0 ++ t ∷ p .2)) =
       given-same q (held-is n d s (flatMap (λ t. t) (g .0)) (g .2)) ∙ ap (λ (ts : List (List Place)). length (flatMap (λ t. t) ts)) (p .6 ∙ ap (λ (l : List Place). p .0 ++ l ∷ p .2) tt′) in
-      let l₁ = flat-length (p .0) new (p .2) in
-      let l₂ = flat-length (p .0) t (p .2) in
+      let l₁ = length-joined (p .0) new (p .2) in
+      let l₂ = length-joined (p .0) t (p .2) in
       (length (flatMap (λ t. t) (p .0 ++ new ∷ p .2)), held-is n e s (flatMap (λ t. t) (p .0 ++ new ∷ p .2)) z, omega arith)

@@ -16,12 +16,13 @@ use Rattle.amend.specs.Lines.{tidy}
 use Rattle.amend.specs.Amending.{Op, kept, Clean}
 use Rattle.amend.specs.Amending
 use Rattle.lists.proofs.Every.{every-imp, every-both}
+use Rattle.amend.proofs.Amending.{clean-of}
 use Rattle.sides.specs.declared.Side.{Side}
 use Rattle.sides.specs.Sides.{other, heldBy, savedFor, deletedFor, Call, callOf, answer, runFor}
 use Rattle.sides.specs.declared.Side
 use Rattle.sides.specs.Claims.{BytesIn, KeptFor, InLimit, OneLimit}
 use Rattle.sides.proofs.Own.{kept-for, held-then}
-use Rattle.sides.proofs.Steps.{Effect, effect, clean-of}
+use Rattle.sides.proofs.Steps.{Effect, effect}
 
 -- ---- a disk that is not clean stays
 not-clean : (n : ℕ) (d : List ℕ) (s : Side) (limit : ℕ) (op : Op) (r : Refusal) → tidy n d ≡ refused r → callOf n d s limit op ≡ refused r

@@ -14,11 +14,11 @@ use Rattle.amend.specs.Save.{dataFor, listsFor, isNew, stored, removed, saved, 
 use Rattle.amend.specs.Amending.{Op, amend}
 use Rattle.amend.specs.Amending
 use Rattle.amend.proofs.Reading.{tidy-reading}
+use Rattle.amend.proofs.Amending.{reading-of}
 use Rattle.sides.specs.declared.Side.{Side}
 use Rattle.sides.specs.Sides.{belongs, heldBy, within, savedFor, deletedFor, callOf}
 use Rattle.sides.specs.Claims.{nameOf, Room, SidesOf, Sides}
 use Rattle.sides.proofs.Own.{own-given, held-is}
-use Rattle.sides.proofs.Steps.{reading-of}
 use Rattle.sides.proofs.Runs.{stays-run, keeps-is, limits-is}
 use Rattle.sides.proofs.Alike.{op-alike, same-own}
 use Rattle.sides.proofs.Always.{always-is, twin-clean}
@@ -128,7 +128,7 @@ sides-of n some′ few =
       stays = λ d c cs b. stays-run n some′ few cs d c b;
       keeps = keeps-is n some′ few;
       limits = limits-is n some′ few;
-      alike = λ d e c k a o. op-alike n d e (reading-of n some′ few d c) (reading-of n some′ few e k) (a .side) (a .limit) o (a .op);
+      alike = λ d e c k a o. op-alike n d e (reading-of n some′ few d c .0) (reading-of n some′ few e k .0) (a .side) (a .limit) o (a .op);
       sameOwn = same-own n;
       always = always-is n some′ few;
       twin = twin-clean n some′ few;

@@ -31,6 +31,7 @@ use Rattle.amend.proofs.Kept.{Changed}
 use Rattle.amend.proofs.Mid.{After, LineKept}
 use Rattle.amend.proofs.Listed.{first-split}
 use Rattle.amend.proofs.Deletes.{delete-clean}
+use Rattle.amend.proofs.Amending.{reading-of, size-of}
 use Rattle.amend.proofs.Saves.{Filled, save-clean, open-line}
 use Rattle.sides.specs.declared.Side.{Side}
 use Rattle.sides.specs.Sides.{other, beginsS, belongs, ofSide, ownAt, heldBy, within, savedFor, deletedFor, callOf}
@@ -134,21 +135,12 @@ unfolding ownAt lineHolds
 own-in n d s x u l h k = let z : sectorsOf n d (entryFrom d x) ≡ given u = rw l at k in rw h z
 
 module _ (n : ℕ) (some′ : 0 < n) (few : n ≤ 16) where
-  pub size-of : (d : List ℕ) → Clean n d → length d ≡ 256 * sectors n
-  size-of d c = contents-size n d (c .has) (tidy-given n d (c .has) (c .is) .1)
-
-  pub reading-of : (d : List ℕ) → Clean n d → Reading n d
-  reading-of d c = tidy-reading n d (c .has) (c .is) .0
-
-  pub clean-of : (d : List ℕ) → Bytes d → Reading n d → Clean n d
-  clean-of d b r = record { bytes = b; has = contentsWith n d (present (r .ls)); is = reading-tidy n d r }
-
   module _ (d : List ℕ) (c : Clean n d) (s : Side) (limit : ℕ) where
     save-effect : (name : List ℕ) (address : ℕ) (bytes : List ℕ) → Bytes bytes → (e : List ℕ) → savedFor n d s limit name address bytes ≡ given e → Effect n d e s limit
     save-effect name address bytes b e h =
         let g = saved-for n d s limit name address bytes e h in
-        let r = reading-of d c in
-        let v = save-clean n some′ few d (c .bytes) (size-of d c) r name address bytes b e (g .2) in
+        let r = reading-of n some′ few d c .0 in
+        let v = save-clean n some′ few d (c .bytes) (size-of n some′ few d c) r name address bytes b e (g .2) in
         let f : After n d e _ (v .0) (sectorsIn (v .1)) [] = v .5 in
         let w : Filled n (length bytes) name e (v .0) (v .1) (v .2) = v .6 in
         let free′ : inUse d (v .0) ≡ false = not-true (inUse d (v .0)) (first-split (λ (y : ℕ). not (inUse d y)) (starts n (r .ps)) (v .0) (open-line n d name address bytes (r .ps) (v .0) (r .paged) (v .3)) .4) in
@@ -175,8 +167,8 @@ module _ (n : ℕ) (some′ : 0 < n) (few : n ≤ 16) where
     delete-effect : (name e : List ℕ) → deletedFor n d s limit name ≡ given e → Effect n d e s limit
     delete-effect name e h =
         let g = deleted-for n d s limit name e h in
-        let r = reading-of d c in
-        let v = delete-clean n some′ few d (c .bytes) (size-of d c) r name e (g .1) in
+        let r = reading-of n some′ few d c .0 in
+        let v = delete-clean n some′ few d (c .bytes) (size-of n some′ few d c) r name e (g .1) in
         let f : After n d e _ (v .0) [] (v .1) = v .4 in
         let here = both-true (inUse d (v .0)) (isNamed name (entryFrom d (v .0))) (v .6) in
         let shows : shown (entryFrom d (v .0) .raw) ≡ name = sym (same-eq name (shown (entryFrom d (v .0) .raw)) (here .1)) in

@@ -14,7 +14,7 @@ use Rattle.lists.specs.Select.{among}
 use Rattle.lists.proofs.Split.{by-test}
 use Rattle.lists.proofs.Among.{not-among}
 use Rattle.outcome.specs.Outcome.{given, each}
-use Rattle.outcome.proofs.Outcome.{each-cons, each-also}
+use Rattle.outcome.proofs.Outcome.{each-cons, each-also, each-same}
 use Rattle.disk.specs.declared.Place.{Place}
 use Rattle.disk.specs.Disk.{start, numberOf, onDisk}
 use Rattle.disk.specs.Vtoc.{vtoc}
@@ -33,11 +33,10 @@ use Rattle.amend.proofs.Lines.{Within, lineHolds, page-within, starts-each}
 use Rattle.amend.proofs.Reading.{Reading, given-same}
 use Rattle.amend.proofs.Change.{page-stays, pages-stay}
 use Rattle.amend.proofs.Kept.{unjoin, lines-on}
-use Rattle.lists.proofs.Every.{every-flatMap, every-imp}
+use Rattle.lists.proofs.Every.{every-flatMap, every-imp, parted}
 use Rattle.amend.proofs.Saves.{free-same}
 use Rattle.sides.specs.declared.Side.{Side}
 use Rattle.sides.specs.Sides.{ofSide}
-use Rattle.sides.proofs.Own.{each-same, heads}
 use Rattle.sides.proofs.Data.{restAt, Divided, divide}
 
 module _ (n : ℕ) (z : 0 < n) (d e : List ℕ) (r : Reading n d) (s : Side) (size : length e ≡ length d) where
@@ -147,7 +146,7 @@ module _ (n : ℕ) (z : 0 < n) (d e : List ℕ) (r : Reading n d) (s : Side) (si
     holds-lines us qs (Every.more {x} {xs} p ps) a h k =
         let c = each-cons (lineHolds n d) x xs us h in
         let f = each-cons (restAt n d s) x xs qs k in
-        let v = heads (subst (Every (Every (Alike n d e))) (f .4) a) in
+        let v = parted (subst (Every (Every (Alike n d e))) (f .4) a) in
         Every.more (holds-line x (c .0) (f .0) p (v .0) (c .2) (f .2)) (holds-lines (c .1) (f .1) ps (v .1) (c .3) (f .3))
 
     pub holds-same : Every (λ (y : ℕ). lineHolds n e y ≡ lineHolds n d y) (starts n (r .ps))
