@@ -52,7 +52,7 @@ use Rattle.filing.proofs.Filed.{filed-long, filed-written, first-place}
 use Rattle.saving.specs.declared.Sight.{Sight}
 use Rattle.saving.specs.Saving.{Amended}
 use Rattle.saving.specs.declared.Asker.{Asker}
-use Rattle.saving.specs.Askers.{noSide, oneSide, mayName, overLimit, roomFor, allowed, savedBy, deletedBy}
+use Rattle.saving.specs.Askers.{noSide, oneSide, mayName, overLimit, roomFor, nameAllowed, savedBy, deletedBy}
 use Rattle.saving.specs.Steps.{isSome, startOr0, bears, idle, sightOf, Seen, Paged, frees, Linked, ListsFreed, Copied, Erasable, Erased, Seated, Storable, EntryPut, FilePut}
 use Rattle.saving.proofs.Freeing.{length-frees, vtoc-long, copy-is, copy-freed}
 
@@ -93,16 +93,16 @@ module _ (d : List ℕ) (c : Contents) (h : tidy 16 d ≡ given c) where
 
 -- ---- what both calls begin with
 module _ (d : List ℕ) (a : Asker) (name : List ℕ) where
-  pub allow-refused : (n : ℕ) → n ≡ number (tidy 16 d) → (n ≡ 0 → ⊥) → n ≡ number (allowed 16 d a name)
-  unfolding allowed
+  pub allow-refused : (n : ℕ) → n ≡ number (tidy 16 d) → (n ≡ 0 → ⊥) → n ≡ number (nameAllowed 16 d a name)
+  unfolding nameAllowed
   allow-refused n e h = go _ (tidy 16 d) e
     where
       go : (f : Contents → Outcome Contents) (o : Outcome Contents) → n ≡ number o → n ≡ number (o >>= f)
       go f (refused r) q = q
       go f (given c) q = absurd (h q)
 
-  allowed-from : (c : Contents) → tidy 16 d ≡ given c → allowed 16 d a name ≡ (require (savable name) UnwritableName >> require (mayName a name) OtherSide >> given c)
-  unfolding allowed
+  allowed-from : (c : Contents) → tidy 16 d ≡ given c → nameAllowed 16 d a name ≡ (require (savable name) UnwritableName >> require (mayName a name) OtherSide >> given c)
+  unfolding nameAllowed
   allowed-from c h = rw h refl
 
   -- the two tests, and what they come to
@@ -110,25 +110,25 @@ module _ (d : List ℕ) (a : Asker) (name : List ℕ) where
   tests c w v = require w UnwritableName >> require v OtherSide >> given c
 
   module _ (n : ℕ) (e : n ≡ number (tidy 16 d)) (z : n ≡ 0) where
-    allowed-is : (w v : Bool) → savable name ≡ w → mayName a name ≡ v → (c : Contents) × (number (allowed 16 d a name) ≡ number (tests c w v))
+    allowed-is : (w v : Bool) → savable name ≡ w → mayName a name ≡ v → (c : Contents) × (number (nameAllowed 16 d a name) ≡ number (tests c w v))
     allowed-is w v f g =
         let t = number-0 (tidy 16 d) (sym e ∙ z) in
         (t .0, ap number (allowed-from (t .0) (t .1)) ∙ (λ i. number (tests (t .0) (f i) (g i))))
 
     module _ (w : Bool) (f : w ≡ savable name) where
-      pub allow-unwritable : w ≡ false → 14 ≡ number (allowed 16 d a name)
+      pub allow-unwritable : w ≡ false → 14 ≡ number (nameAllowed 16 d a name)
       allow-unwritable h = sym (allowed-is false (mayName a name) (sym f ∙ h) refl .1)
 
       module _ (y : w ≡ true) (v : Bool) (g : v ≡ mayName a name) where
-        pub allow-other : v ≡ false → 23 ≡ number (allowed 16 d a name)
+        pub allow-other : v ≡ false → 23 ≡ number (nameAllowed 16 d a name)
         allow-other h = sym (allowed-is true false (sym f ∙ y) (sym g ∙ h) .1)
 
-        pub allow-all : v ≡ true → 0 ≡ number (allowed 16 d a name)
+        pub allow-all : v ≡ true → 0 ≡ number (nameAllowed 16 d a name)
         allow-all h = sym (allowed-is true true (sym f ∙ y) (sym g ∙ h) .1)
 
   -- where nothing is refused, the disk is tidy and the name allowed
-  allowed-parts : (c : Contents) → allowed 16 d a name ≡ given c → (tidy 16 d ≡ given c) × (savable name ≡ true)
-  unfolding allowed
+  allowed-parts : (c : Contents) → nameAllowed 16 d a name ≡ given c → (tidy 16 d ≡ given c) × (savable name ≡ true)
+  unfolding nameAllowed
   allowed-parts c h =
       let g = gives (tidy 16 d) _ c h in
       let t = steps (g .0) (savable name) (mayName a name) (g .2) in
@@ -141,11 +141,11 @@ module _ (d : List ℕ) (a : Asker) (name : List ℕ) where
 
 pub ruleset allows = (allow-refused, allow-unwritable, allow-other, allow-all, not-true, not-false, needs)
 
-module _ (d : List ℕ) (a : Asker) (name : List ℕ) (n : ℕ) (e : n ≡ number (allowed 16 d a name)) where
+module _ (d : List ℕ) (a : Asker) (name : List ℕ) (n : ℕ) (e : n ≡ number (nameAllowed 16 d a name)) where
   -- ---- a call that is refused so
   pub delete-refused : (n ≡ 0 → ⊥) → Amended (deletedBy 16 d a name) d d n
   unfolding deletedBy
-  delete-refused h = go (allowed 16 d a name) e
+  delete-refused h = go (nameAllowed 16 d a name) e
     where
       go : (o : Outcome Contents) → n ≡ number o → Amended (o >> (lineOf 16 d name >>= λ x. deletedAt 16 d x)) d d n
       go (refused r) q = record { is = q; disk = refl }
@@ -153,7 +153,7 @@ module _ (d : List ℕ) (a : Asker) (name : List ℕ) (n : ℕ) (e : n ≡ numbe
 
   pub save-refused : (address : ℕ) (bytes : List ℕ) → (n ≡ 0 → ⊥) → Amended (savedBy 16 d a name address bytes) d d n
   unfolding savedBy
-  save-refused address bytes h = go _ (allowed 16 d a name) e
+  save-refused address bytes h = go _ (nameAllowed 16 d a name) e
     where
       go : (f : Contents → Outcome (List ℕ)) (o : Outcome Contents) → n ≡ number o → Amended (o >>= f) d d n
       go f (refused r) q = record { is = q; disk = refl }
@@ -161,8 +161,8 @@ module _ (d : List ℕ) (a : Asker) (name : List ℕ) (n : ℕ) (e : n ≡ numbe
 
   -- ---- one that is not
   module _ (z : n ≡ 0) where
-    has : (c : Contents) × (allowed 16 d a name ≡ given c)
-    has = number-0 (allowed 16 d a name) (sym e ∙ z)
+    has : (c : Contents) × (nameAllowed 16 d a name ≡ given c)
+    has = number-0 (nameAllowed 16 d a name) (sym e ∙ z)
 
     tidied : tidy 16 d ≡ given (has .0)
     tidied = allowed-parts d a name (has .0) (has .1) .0
@@ -350,7 +350,7 @@ module _ (o : Outcome Contents) (w v : Bool) where
 module _ (d name : List ℕ) where
   -- without a side its tests fall away
   no-side-saves : (address : ℕ) (bytes : List ℕ) → saved 16 d name address bytes ≡ savedBy 16 d noSide name address bytes
-  unfolding savedBy saved allowed
+  unfolding savedBy saved nameAllowed
   no-side-saves address bytes = go (tidy 16 d)
     where
       steps : (w t : Bool) (o : Outcome (List ℕ))
@@ -369,7 +369,7 @@ module _ (d name : List ℕ) where
           ∙ row-saves (given c) (savable name) true (λ x. isNew x name) (roomFor 16 d noSide (length bytes)) (stored 16 d name address bytes)
 
   no-side-deletes : deleted 16 d name ≡ deletedBy 16 d noSide name
-  unfolding deletedBy deleted allowed
+  unfolding deletedBy deleted nameAllowed
   no-side-deletes = go (tidy 16 d) (savable name) ∙ row-deletes (tidy 16 d) (savable name) true (removed 16 d name)
     where
       go : (o : Outcome Contents) (w : Bool) → (o >> require w UnwritableName >> removed 16 d name) ≡ (o >> require w UnwritableName >> require true OtherSide >> removed 16 d name)
@@ -386,14 +386,14 @@ module _ (d name : List ℕ) where
 
     pub one-side-saved : (s : Side) (limit address : ℕ) (bytes : List ℕ) → Amended (savedBy 16 d a name address bytes) d after r → a ≡ oneSide s limit
         → Amended (savedFor 16 d s limit name address bytes) d after r
-    unfolding savedBy savedFor allowed
+    unfolding savedBy savedFor nameAllowed
     one-side-saved s limit address bytes h e =
         same-call
         (row-saves (tidy 16 d) (savable name) (belongs s name) (λ c. isNew c name) (within 16 d s limit (length bytes)) (stored 16 d name address bytes)
         ∙ ap (λ (b : Asker). savedBy 16 d b name address bytes) (sym e)) h
 
     pub one-side-deleted : (s : Side) (limit : ℕ) → Amended (deletedBy 16 d a name) d after r → a ≡ oneSide s limit → Amended (deletedFor 16 d s limit name) d after r
-    unfolding deletedBy deletedFor allowed
+    unfolding deletedBy deletedFor nameAllowed
     one-side-deleted s limit h e =
         same-call (row-deletes (tidy 16 d) (savable name) (belongs s name) (removed 16 d name) ∙ ap (λ (b : Asker). deletedBy 16 d b name) (sym e)) h
 

@@ -36,13 +36,13 @@ module _ (n : ℕ) (d : List ℕ) (a : Asker) where
   roomFor k = cond (a .sided) (within n d (a .side) (a .limit) k) (given tt)
 
   -- what both calls begin with: 1 to 6, 20, 14, 23
-  unfoldable pub allowed : (name : List ℕ) → Outcome Contents
-  allowed name = tidy n d >>= λ c. require (savable name) UnwritableName >> require (mayName a name) OtherSide >> given c
+  unfoldable pub nameAllowed : (name : List ℕ) → Outcome Contents
+  nameAllowed name = tidy n d >>= λ c. require (savable name) UnwritableName >> require (mayName a name) OtherSide >> given c
 
   -- a save
   unfoldable pub savedBy : (name : List ℕ) (address : ℕ) (bytes : List ℕ) → Outcome (List ℕ)
-  savedBy name address bytes = allowed name >>= λ c. require (isNew c name) NameTaken >> roomFor (length bytes) >> stored n d name address bytes
+  savedBy name address bytes = nameAllowed name >>= λ c. require (isNew c name) NameTaken >> roomFor (length bytes) >> stored n d name address bytes
 
   -- a delete
   unfoldable pub deletedBy : (name : List ℕ) → Outcome (List ℕ)
-  deletedBy name = allowed name >> removed n d name
+  deletedBy name = nameAllowed name >> removed n d name

@@ -10,7 +10,7 @@ ghost use Rattle.amend.specs.Lines.{savable, tidy};
 ghost use Rattle.amend.specs.Save.{dataFor, listsFor, savedAt, stored, saved, deleted};
 ghost use Rattle.sides.specs.Sides.{savedFor, deletedFor};
 ghost use Rattle.saving.specs.Saving.{Amended};
-ghost use Rattle.saving.specs.Askers.{noSide, oneSide, mayName, overLimit, allowed, savedBy, deletedBy};
+ghost use Rattle.saving.specs.Askers.{noSide, oneSide, mayName, overLimit, nameAllowed, savedBy, deletedBy};
 ghost use Rattle.saving.specs.Steps.{LineSeen, PageSeen, Seen, Paged, PairsFreed, ListFreed, Linked, ListsFreed, Copied, Erasable, Erased, Seated, Storable, EntryPut, FilePut};
 use allot::mark_sector;
 use allot::take_sectors;
@@ -277,7 +277,7 @@ fn erase(disk: &mut [u8], x: usize)
 
 // The refusals that a save and a delete begin with: 1 to 6, 20, 14, and 23 where a side asks; 0 where there is none.
 fn name_refusal(disk: &[u8], asker: Asker, name: &[u8]) -> u8
-    ensures { λ r. ⌜ r ≡ number (allowed 16 (now (disk .entry)) asker (now (name .entry))) ⌝ }
+    ensures { λ r. ⌜ r ≡ number (nameAllowed 16 (now (disk .entry)) asker (now (name .entry))) ⌝ }
 {
     let number = tidy_refusal(disk);
     if number != 0 {

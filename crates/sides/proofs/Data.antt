@@ -27,7 +27,7 @@ use Rattle.amend.proofs.Reading.{Reading}
 use Rattle.amend.proofs.Kept.{Changed, parts-of}
 use Rattle.sides.specs.declared.Side.{Side}
 use Rattle.sides.specs.Sides.{belongs, ofSide}
-use Rattle.sides.specs.Claims.{dataAt, ownData}
+use Rattle.sides.specs.Claims.{ownDataAt, ownData}
 use Rattle.lists.proofs.Every.{parted}
 use Rattle.sides.proofs.Own.{pages-then, alikes}
 
@@ -51,9 +51,9 @@ module _ (n : ℕ) (d : List ℕ) where
 
     -- one line
     line-parts : (y : ℕ) (u : List Place) → lineHolds n d y ≡ given u
-        → (q : List Place) × (p : List Place) × (restAt y ≡ given q) × (dataAt n d s y ≡ given p) × ((k : ℕ) → held n u k ≡ held n q k + held n p k)
+        → (q : List Place) × (p : List Place) × (restAt y ≡ given q) × (ownDataAt n d s y ≡ given p) × ((k : ℕ) → held n u k ≡ held n q k + held n p k)
         × (On n u → On n q)
-    unfolding restAt dataAt lineHolds
+    unfolding restAt ownDataAt lineHolds
     line-parts y u h =
         by-test (ofSide s (entryFrom d y))
         (λ t.
@@ -68,7 +68,7 @@ module _ (n : ℕ) (d : List ℕ) where
         ))
         (λ t. (u, [], rw t h, rw t refl, λ k. let z = held-none n k in omega arith, λ e. e))
       where
-        data-yes : (ls : List Place) → ofSide s (entryFrom d y) ≡ true → lists n d (entryFrom d y) ≡ given ls → dataAt n d s y ≡ given (flatMap (pairsOf n d) ls)
+        data-yes : (ls : List Place) → ofSide s (entryFrom d y) ≡ true → lists n d (entryFrom d y) ≡ given ls → ownDataAt n d s y ≡ given (flatMap (pairsOf n d) ls)
         data-yes ls t g = rw (t, g) refl
 
     -- all lines
@@ -76,7 +76,7 @@ module _ (n : ℕ) (d : List ℕ) where
       pub rest : List (List Place)
       pub data′ : List (List Place)
       pub restIs : each restAt ys ≡ given rest
-      pub dataIs : each (dataAt n d s) ys ≡ given data′
+      pub dataIs : each (ownDataAt n d s) ys ≡ given data′
       pub sum : (k : ℕ) → held n (flatMap (λ t. t) us) k ≡ held n (flatMap (λ t. t) rest) k + held n (flatMap (λ t. t) data′) k
       pub part : Every (On n) us → Every (On n) rest
 
@@ -93,7 +93,7 @@ module _ (n : ℕ) (d : List ℕ) where
           rest = l .0 ∷ i .rest;
           data′ = l .1 ∷ i .data′;
           restIs = one restAt (l .0) (i .rest) (l .2) (i .restIs);
-          dataIs = one (dataAt n d s) (l .1) (i .data′) (l .3) (i .dataIs);
+          dataIs = one (ownDataAt n d s) (l .1) (i .data′) (l .3) (i .dataIs);
           sum = λ k.
               let a = held-append n k (c .0) (flatMap (λ t. t) (c .1)) in
               let b = held-append n k (l .0) (flatMap (λ t. t) (i .rest)) in
@@ -107,14 +107,14 @@ module _ (n : ℕ) (d : List ℕ) where
         one : {D : Type 0} (g : ℕ → Outcome D) (w : D) (l : List D) → g y ≡ given w → each g ys ≡ given l → each g (y ∷ ys) ≡ given (w ∷ l)
         one g w l m k = rw (m, k) refl
 
-    pub data-is : (ps : List Place) (ts : List (List Place)) → pages n d ≡ given ps → each (dataAt n d s) (starts n ps) ≡ given ts → ownData n d s ≡ given (flatMap (λ t. t) ts)
+    pub data-is : (ps : List Place) (ts : List (List Place)) → pages n d ≡ given ps → each (ownDataAt n d s) (starts n ps) ≡ given ts → ownData n d s ≡ given (flatMap (λ t. t) ts)
     unfolding ownData
     data-is ps ts p h = rw (p, h) refl
 
 -- ---- one line changed
 module _ (n : ℕ) (d e : List ℕ) (s : Side) where
-  data-line : (y : ℕ) (u : List Place) → entryFrom e y ≡ entryFrom d y → Every (Alike n d e) u → lineHolds n d y ≡ given u → dataAt n e s y ≡ dataAt n d s y
-  unfolding lineHolds dataAt
+  data-line : (y : ℕ) (u : List Place) → entryFrom e y ≡ entryFrom d y → Every (Alike n d e) u → lineHolds n d y ≡ given u → ownDataAt n e s y ≡ ownDataAt n d s y
+  unfolding lineHolds ownDataAt
   data-line y u q a h = go (entryFrom d y) (entryFrom e y) q h
     where
       go : (x z : Entry) → z ≡ x → cond (live x) (sectorsOf n d x) (given []) ≡ given u
@@ -133,7 +133,7 @@ module _ (n : ℕ) (d e : List ℕ) (s : Side) where
           same ls i j k = rw (i, j, k) refl
 
   data-lines : {ys : List ℕ} (us : List (List Place)) → Every (λ (y : ℕ). entryFrom e y ≡ entryFrom d y) ys → Every (Every (Alike n d e)) us
-      → each (lineHolds n d) ys ≡ given us → Every (λ (y : ℕ). dataAt n e s y ≡ dataAt n d s y) ys
+      → each (lineHolds n d) ys ≡ given us → Every (λ (y : ℕ). ownDataAt n e s y ≡ ownDataAt n d s y) ys
   data-lines us Every.none a h = Every.none
   data-lines us (Every.more {x} {xs} q qs) a h =
       let c = each-cons (lineHolds n d) x xs us h in
@@ -142,8 +142,8 @@ module _ (n : ℕ) (d e : List ℕ) (s : Side) where
 
 module _ (n : ℕ) (d e : List ℕ) (r : Reading n d) (a : List ℕ) (x : ℕ) (b : List ℕ) (c : Changed n d e r a x b) (s : Side)
     (was : ofSide s (entryFrom d x) ≡ false) (is : ofSide s (entryFrom e x) ≡ false) where
-  data-none : (f : List ℕ) → ofSide s (entryFrom f x) ≡ false → dataAt n f s x ≡ given []
-  unfolding dataAt
+  data-none : (f : List ℕ) → ofSide s (entryFrom f x) ≡ false → ownDataAt n f s x ≡ given []
+  unfolding ownDataAt
   data-none f h = rw h refl
 
   pub data-stays : ownData n e s ≡ ownData n d s
@@ -151,8 +151,8 @@ module _ (n : ℕ) (d e : List ℕ) (r : Reading n d) (a : List ℕ) (x : ℕ) (
   data-stays =
       let p = parts-of n d e r a x b (c .split) in
       let al = alikes n d e r a x b c s in
-      let w : Every (λ (y : ℕ). dataAt n e s y ≡ dataAt n d s y) (a ++ x ∷ b) =
+      let w : Every (λ (y : ℕ). ownDataAt n e s y ≡ ownDataAt n d s y) (a ++ x ∷ b) =
       every-append (data-lines n d e s (p .ua) (c .before) (al .0) (p .holdsA))
       (Every.more (data-none e is ∙ sym (data-none d was)) (data-lines n d e s (p .ub) (c .after) (al .1) (p .holdsB))) in
       rw (pages-then n d e r a x b c s, r .paged, c .split)
-      (ap (λ (o : Outcome (List (List Place))). o >>= λ ts. given (flatMap (λ t. t) ts)) (each-same (dataAt n e s) (dataAt n d s) w))
+      (ap (λ (o : Outcome (List (List Place))). o >>= λ ts. given (flatMap (λ t. t) ts)) (each-same (ownDataAt n e s) (ownDataAt n d s) w))

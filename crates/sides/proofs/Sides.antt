@@ -17,7 +17,7 @@ use Rattle.amend.proofs.Reading.{tidy-reading}
 use Rattle.amend.proofs.Amending.{reading-of}
 use Rattle.sides.specs.declared.Side.{Side}
 use Rattle.sides.specs.Sides.{belongs, heldBy, within, savedFor, deletedFor, callOf}
-use Rattle.sides.specs.Claims.{nameOf, Room, SidesOf, Sides}
+use Rattle.sides.specs.Claims.{askedName, HasRoom, SidesOf, Sides}
 use Rattle.sides.proofs.Own.{own-given, held-is}
 use Rattle.sides.proofs.Runs.{stays-run, keeps-is, limits-is}
 use Rattle.sides.proofs.Alike.{op-alike, same-own}
@@ -114,7 +114,7 @@ module _ (n : ℕ) (d : List ℕ) (s : Side) (limit : ℕ) where
       go (given c) false = refl
       go (given c) true = refl
 
-  op-served : (op : Op) → belongs s (nameOf op) ≡ true → Room n d s limit op → callOf n d s limit op ≡ amend n d op
+  op-served : (op : Op) → belongs s (askedName op) ≡ true → HasRoom n d s limit op → callOf n d s limit op ≡ amend n d op
   op-served (Amending.Op.save name address bytes) b w = save-served name address bytes b w
   op-served (Amending.Op.delete name) b w = delete-served name b
 

@@ -25,14 +25,14 @@ BytesIn c = OfBytes (c .op)
 
 -- ---- 0. the calls of Req 09
 -- the name that is asked for
-abbrev pub nameOf : Op → List ℕ
-nameOf (Amending.Op.save name address bytes) = name
-nameOf (Amending.Op.delete name) = name
+abbrev pub askedName : Op → List ℕ
+askedName (Amending.Op.save name address bytes) = name
+askedName (Amending.Op.delete name) = name
 
 -- the side's limit has room: a delete asks for none
-abbrev pub Room : ℕ → List ℕ → Side → ℕ → Op → Type 0
-Room n d s limit (Amending.Op.save name address bytes) = within n d s limit (length bytes) ≡ given tt
-Room n d s limit (Amending.Op.delete name) = Unit {0}
+abbrev pub HasRoom : ℕ → List ℕ → Side → ℕ → Op → Type 0
+HasRoom n d s limit (Amending.Op.save name address bytes) = within n d s limit (length bytes) ≡ given tt
+HasRoom n d s limit (Amending.Op.delete name) = Unit {0}
 
 -- ---- 1. what the other side has stays
 -- e has the lines and files of a side as d has them: the lines in use by it are the same, each with its 35 bytes, and so are the sectors of its files, lists
@@ -64,12 +64,12 @@ pub record SameOwn (n : ℕ) (s : Side) (d e : List ℕ) : Type 0 where
 
 -- ---- 4. data bytes of the other's files
 -- the data sectors of the side's file in the line at x; none where the line is not its own
-unfoldable pub dataAt : ℕ → List ℕ → Side → ℕ → Outcome (List Place)
-dataAt n d s x = cond (ofSide s (entryFrom d x)) (lists n d (entryFrom d x) >>= λ ls. given (flatMap (pairsOf n d) ls)) (given [])
+unfoldable pub ownDataAt : ℕ → List ℕ → Side → ℕ → Outcome (List Place)
+ownDataAt n d s x = cond (ofSide s (entryFrom d x)) (lists n d (entryFrom d x) >>= λ ls. given (flatMap (pairsOf n d) ls)) (given [])
 
 -- all data sectors of its files
 unfoldable pub ownData : ℕ → List ℕ → Side → Outcome (List Place)
-ownData n d s = pages n d >>= λ ps. each (dataAt n d s) (starts n ps) >>= λ ts. given (flatMap (λ t. t) ts)
+ownData n d s = pages n d >>= λ ps. each (ownDataAt n d s) (starts n ps) >>= λ ts. given (flatMap (λ t. t) ts)
 
 -- d and e have the same size, and every byte outside the sectors ps is equal
 pub record DifferIn (n : ℕ) (ps : List Place) (d e : List ℕ) : Type 0 where
@@ -88,7 +88,7 @@ pub record AlikeAlways (n : ℕ) (ps : List Place) (d e : List ℕ) (c : Call) :
 -- Req 10, for disks of n sectors a track
 pub record SidesOf (n : ℕ) : Type 0 where
   -- a call under a name of its own, with room, is the save or delete of Req 09; and so is every call that is not refused as 23 or 24
-  pub served : (d : List ℕ) (c : Call) → belongs (c .side) (nameOf (c .op)) ≡ true → Room n d (c .side) (c .limit) (c .op) → answer n d c ≡ amend n d (c .op)
+  pub served : (d : List ℕ) (c : Call) → belongs (c .side) (askedName (c .op)) ≡ true → HasRoom n d (c .side) (c .limit) (c .op) → answer n d c ≡ amend n d (c .op)
   pub otherwise : (d : List ℕ) (c : Call) → (number (answer n d c) ≡ 23 → ⊥) → (number (answer n d c) ≡ 24 → ⊥) → answer n d c ≡ amend n d (c .op)
   -- what the code counts page by page is what a side holds, on every disk whose lists can be followed
   pub counted : (d : List ℕ) (s : Side) (m : ℕ) → heldBy n d s ≡ given m → tally n d s ≡ m
