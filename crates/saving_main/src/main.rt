@@ -1,5 +1,5 @@
-// Saves and deletes on trial disks: document 02, Req 09. Standard input is a script, a line of six bytes in hexadecimal for each step. The head of laying has the steps
-// that lay the disks, 00 to 02, 15 and 23. There are a name of 63 bytes at most and 40,000 bytes of data at hand. KK is an edition, 0D or 10, or 0F: the disk of 16
+// Saves and deletes on trial disks: document 02, Req 09 and 10. Standard input is a script, a line of six bytes in hexadecimal for each step. The head of laying has the
+// steps that lay the disks, 00 to 02, 15 and 23. There are a name of 63 bytes at most and 40,000 bytes of data at hand. KK is an edition, 0D or 10, or 0F: the disk of 16
 // sectors a track without its last byte. AABB and NNNN are numbers, the high byte first; what is not named is 00:
 //     20 NN VV             the name has NN bytes, each of them VV
 //     21 II AA BB CC DD    put AA, BB, CC, DD at bytes II, II + 1, II + 2, II + 3 of the name
@@ -10,14 +10,19 @@
 //                          file without bytes. Shown is "+" or "-" where the last track is then that track, ">" or "<" where it is another, by the direction; "." for 21
 //                          and "!" for another refusal
 //     27 AA BB CC DD EE    print these letters, but no 00
+//     28 SS AA BB          who asks in the steps 24 and 25 from here on: SS 01 our side, 02 the survey office, with the limit AABB; 81 and 82 the same, with the limit
+//                          2^64 - 1; 00 no side, as at the start. A step 26 asks for no side
 // A save or delete shows its number and the sectors that changed: up to 48 bytes that differ, or else how many and the sum of all. If it is not refused, bytes 48 and 49 of
-// the VTOC, whether the disk is clean, and the file of that name follow.
+// the VTOC, whether the disk is clean, and the file of that name follow. Where a side asked and the number is not 1 to 6, it is shown last how many sectors each side holds.
 use lists::byte_at;
 use lists::copy_at;
 use lists::fill_at;
 use lists::part;
 use lists::same;
+use sides::Side;
+use sides::count_held;
 use trial::number;
+use trial::place;
 use trial::place_16;
 use trial::poke;
 use trial::print;
@@ -154,33 +159,79 @@ fn show_state(disk: &[u8], name: &[u8], data: &[u8]) {
     show_file(disk, name, data);
 }
 
+// Who asks is the number SSAABB of a step 28: whether a side does, which, and its limit.
+fn sided(who: usize) -> bool {
+    65536 <= who
+}
+
+fn side_of(who: usize) -> Side {
+    if who / 65536 % 2 == 0 {
+        return Side::Survey;
+    }
+    Side::Ours
+}
+
+fn limit_of(who: usize) -> u64 {
+    if 0x800000 <= who {
+        return 0xFFFFFFFFFFFFFFFF;
+    }
+    (who % 65536) as u64
+}
+
+fn save(disk: &mut [u8], name: &[u8], data: &[u8], who: usize, address: u16) -> u8 {
+    if sided(who) {
+        return saving::save_for(disk, side_of(who), limit_of(who), name, address, data);
+    }
+    saving::save(disk, name, address, data)
+}
+
+fn delete(disk: &mut [u8], name: &[u8], who: usize) -> u8 {
+    if sided(who) {
+        return saving::delete_for(disk, side_of(who), limit_of(who), name);
+    }
+    saving::delete(disk, name)
+}
+
 // A save, or a delete: its number.
-fn amend(disk: &mut [u8], name: &[u8], data: &[u8], step: [u8; 6]) -> u8 {
+fn amend(disk: &mut [u8], name: &[u8], data: &[u8], who: usize, step: [u8; 6]) -> u8 {
     if step[0] == 0x24 {
-        let r = saving::save(disk, name, number(step[2], step[3]) as u16, data);
+        let r = save(disk, name, data, who, number(step[2], step[3]) as u16);
         refusal_line(b"save: refusal", r);
         return r;
     }
-    let r = saving::delete(disk, name);
+    let r = delete(disk, name, who);
     refusal_line(b"delete: refusal", r);
     r
 }
 
-fn show_amended(disk: &mut [u8], name: &[u8], data: &[u8], step: [u8; 6]) {
+// What each side holds, where a side asked and the disk was not refused as 1 to 6.
+fn show_sides(disk: &[u8], who: usize, r: u8) {
+    if !sided(who) | (0 < r) & (r <= 6) {
+        return;
+    }
+    print_number(b"  sectors of ours", count_held(disk, 16, Side::Ours));
+    print_line(
+        b", of the survey office",
+        count_held(disk, 16, Side::Survey),
+    );
+}
+
+fn show_amended(disk: &mut [u8], name: &[u8], data: &[u8], who: usize, step: [u8; 6]) {
     let mut old = trial::disk();
     copy_at(disk, &mut old, 0);
-    let r = amend(disk, name, data, step);
+    let r = amend(disk, name, data, who, step);
     show_changes(part(&old, 0, disk.len()), disk);
     if r == 0 {
         show_state(disk, name, data);
     }
+    show_sides(disk, who, r);
 }
 
 // On the disk of 16 sectors a track.
-fn show_whole(disks: &mut [u8], name: &[u8], data: &[u8], step: [u8; 6]) {
+fn show_whole(disks: &mut [u8], name: &[u8], data: &[u8], who: usize, step: [u8; 6]) {
     let mut copy = trial::disk();
     copy_at(part(disks, 0, 143360), &mut copy, 0);
-    show_amended(&mut copy, name, data, step);
+    show_amended(&mut copy, name, data, who, step);
     copy_at(&copy, disks, 0);
 }
 
@@ -193,22 +244,22 @@ fn lent_size(edition: u8) -> usize {
 }
 
 // On a disk of another size; what becomes of it is only shown.
-fn show_front(disks: &[u8], name: &[u8], data: &[u8], step: [u8; 6]) {
+fn show_front(disks: &[u8], name: &[u8], data: &[u8], who: usize, step: [u8; 6]) {
     let mut copy = trial::disk();
     copy_at(laying::disk_of(disks, step[1]), &mut copy, 0);
     let size = lent_size(step[1]);
     if size <= copy.len() {
-        show_amended(&mut copy[0..size], name, data, step);
+        show_amended(&mut copy[0..size], name, data, who, step);
     }
 }
 
-fn show_lent(disks: &mut [u8], name: &[u8], data: &[u8], step: [u8; 6]) {
+fn show_lent(disks: &mut [u8], name: &[u8], data: &[u8], who: usize, step: [u8; 6]) {
     let bytes = part(data, 0, number(step[4], step[5]));
     if step[1] == 16 {
-        show_whole(disks, name, bytes, step);
+        show_whole(disks, name, bytes, who, step);
         return;
     }
-    show_front(disks, name, bytes, step);
+    show_front(disks, name, bytes, who, step);
 }
 
 // The sign of a direction, as a step 26 shows it.
@@ -268,34 +319,45 @@ fn letters(step: [u8; 6]) {
 }
 
 // The steps that show something.
-fn show(disks: &mut [u8], name: &[u8], data: &[u8], step: [u8; 6]) {
+fn show(disks: &mut [u8], name: &[u8], data: &[u8], who: usize, step: [u8; 6]) {
     match step[0] {
-        0x24..=0x25 => show_lent(disks, asked(name), data, step),
+        0x24..=0x25 => show_lent(disks, asked(name), data, who, step),
         0x26 => try_tracks(disks, asked(name), step),
         0x27 => letters(step),
         _ => print(b"no such step\n"),
     }
 }
 
-fn act(disks: &mut [u8], name: &mut [u8], data: &mut [u8], step: [u8; 6]) {
+fn act(disks: &mut [u8], name: &mut [u8], data: &mut [u8], who: usize, step: [u8; 6]) {
     match step[0] {
         0..=2 | 0x15 | 0x23 => laying::change(disks, step),
         0x20 => set_name(name, step[1], step[2]),
         0x21 => put_name(name, step),
         0x22 => fill_data(data, step[1], step[2], step[3]),
-        _ => show(disks, name, data, step),
+        0x28 => (),
+        _ => show(disks, name, data, who, step),
     }
+}
+
+// Who asks after a step.
+fn asker(who: usize, step: [u8; 6]) -> usize {
+    if step[0] == 0x28 {
+        return place(step[1], step[2], step[3]);
+    }
+    who
 }
 
 fn run(disks: &mut [u8], name: &mut [u8], data: &mut [u8]) {
     let mut left: u32 = 100000;
+    let mut who: usize = 0;
     while left > 0 {
         let s = trial::next_step();
         if !s.more {
             return;
         }
         let step = s.bytes;
-        act(disks, name, data, step);
+        who = asker(who, step);
+        act(disks, name, data, who, step);
         left -= 1;
     }
 }

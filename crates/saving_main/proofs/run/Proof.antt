@@ -5,10 +5,10 @@ use Rattle.saving_main.proofs.run.Statement.{statement}
 use Rattle.saving_main.proofs.run.Tie as tie
 
 abbrev Inv-loop : tie.InvT-loop
-Inv-loop disks₀ name₀ data₀ left₀ disks name «data» left = (length disks ≡ length disks₀) × (length name ≡ length name₀) × (length «data» ≡ length data₀)
+Inv-loop disks₀ name₀ data₀ left₀ who₀ disks name «data» left who = (length disks ≡ length disks₀) × (length name ≡ length name₀) × (length «data» ≡ length data₀)
 
 abbrev μ-loop : tie.MeasureT-loop
-μ-loop disks₀ name₀ data₀ left₀ disks name «data» left = left
+μ-loop disks₀ name₀ data₀ left₀ who₀ disks name «data» left who = left
 
 pub run-spec : {M : Type 1} → statement M
 run-spec =
@@ -22,6 +22,7 @@ run-spec =
     (λ c. search needs)  -- same-length-2
     (λ c. search needs)  -- same-length-3
     (λ c. search needs)  -- returns
+    (λ c κs. search needs)  -- asker-requires
     (λ c κs. search needs)  -- act-requires
     (λ c. search needs)  -- sub-left
     (λ c. search needs)  -- loop-less
