@@ -95,6 +95,46 @@ fn sectors_by_key() {
     );
 }
 
+// The DOS sectors of address sectors 0 to 15, as the interleave figure of Beneath Apple DOS has them.
+const FIGURE: [usize; 16] = [0, 7, 14, 6, 13, 5, 12, 4, 11, 3, 10, 2, 9, 1, 8, 15];
+
+#[test]
+fn the_order_on_a_track() {
+    let mut dice = common::Dice(0xF16);
+    let bytes: Vec<u8> = (0..DISK_SIZE).map(|_| dice.roll(256) as u8).collect();
+    let volume = bytes[at(17, 0) + 6];
+    let mut stream = nibblize(&bytes).unwrap();
+    for track in 0..35u8 {
+        for sector in 0..16u8 {
+            let from = at(track.into(), FIGURE[usize::from(sector)]);
+            let key = Key {
+                volume,
+                track,
+                sector,
+            };
+            assert_eq!(
+                stream_sector(&stream, key).unwrap(),
+                bytes[from..from + 256],
+                "track {track}, address sector {sector}"
+            );
+        }
+    }
+    assert_eq!(denibblize(&stream).unwrap(), bytes);
+    // Each address says the next sector, so the reader puts each sector where the figure has that one.
+    let mut moved = bytes.clone();
+    for track in 0..35usize {
+        for sector in 0..16usize {
+            let next = (sector + 1) % 16;
+            let place = field(track, sector);
+            address(&mut stream, place, volume, track as u8, next as u8);
+            let from = at(track, FIGURE[sector]);
+            let to = at(track, FIGURE[next]);
+            moved[to..to + 256].copy_from_slice(&bytes[from..from + 256]);
+        }
+    }
+    assert_eq!(denibblize(&stream).unwrap(), moved);
+}
+
 #[test]
 fn encoding() {
     let mut sector = [0u8; 256];

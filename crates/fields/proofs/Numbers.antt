@@ -3,11 +3,14 @@ use mathlib.Core.Path.{_≡_, refl, sym, ap, _∙_}
 use mathlib.Core.Bool.{cond}
 use mathlib.Core.List.{List}
 use Prim.Native.Nat.{ℕ, _+_, _*_, _/_, _%_, _≤_, _<_}
+use native.Mathlib.Nat.{add-mul-mod-self-right}
 use native.Mathlib.Omega.{arith}
 use borrow.Author.Needs.{needs}
 use borrow.Author.Tests.{eq-eqb, ne-eqb, eqb-true}
 use lib.Dec.{eqb, ltb, eqb→eq, ltb→lt}
-use lib.ListN.{replicate}
+use lib.ListN.{getD, replicate}
+use Rattle.lists.specs.Fill.{tab}
+use Rattle.lists.proofs.Laws.{getD-tab}
 use Rattle.lists.proofs.Split.{by-test, clash}
 use Rattle.lists.proofs.Table.{test-at}
 use Rattle.fields.specs.declared.Edition.{Edition}
@@ -79,16 +82,18 @@ back : (p : ℕ) → p < 16 → wayBack (interleave p) ≡ p
 unfolding interleave
 back p h = eqb→eq _ p (test-at (λ k x. eqb (wayBack (interleave k)) k) (replicate 16 0) tt p h)
 
--- what dos_sector answers
-pub last-is : (p : ℕ) → p ≡ 15 → 15 ≡ interleave p
-unfolding interleave
-last-is p e = rw (eq-eqb p 15 e) refl
+-- the table of dos_sectors says what the formula says: of the sixteen, and of the numbers past them
+pub order-at : (t : List ℕ) (p : ℕ) → t ≡ tab interleave 16 → p < 16 → getD t p 0 ≡ interleave p
+order-at t p e h = rw e (getD-tab interleave 16 p 0 h)
 
-pub other-is : (p : ℕ) → (p ≡ 15 → ⊥) → 7 * p % 15 ≡ interleave p
+pub order-again : (t : List ℕ) (p : ℕ) → t ≡ tab interleave 16 → 16 ≤ p → getD t (p % 15) 0 ≡ interleave p
 unfolding interleave
-other-is p e = rw (ne-eqb p 15 e) refl
+order-again t p e h =
+    let s : 7 * (p % 15) + 7 * (p / 15) * 15 ≡ 7 * p = omega arith in
+    let f : 7 * (p % 15) % 15 ≡ 7 * p % 15 = sym (add-mul-mod-self-right (7 * (p % 15)) (7 * (p / 15)) 15) ∙ ap (λ (x : ℕ). x % 15) s in
+    order-at t (p % 15) e (omega arith) ∙ rw (ne-eqb (p % 15) 15 (omega arith), ne-eqb p 15 (omega arith)) f
 
-pub ruleset interleaves = (last-is, other-is, needs)
+pub ruleset interleaves = (order-at, order-again, needs)
 
 -- ---- and of both
 pub dos-lt : (ed : Edition) (p : ℕ) → p < perTrack ed → dosSector ed p < perTrack ed

@@ -2,6 +2,7 @@
 ghost use mathlib.Core.Path.{_≡_};
 ghost use Prim.Native.Nat.{_+_, _*_, _≤_, _<_};
 ghost use lib.ListN.{length, drop};
+ghost use Rattle.lists.specs.Fill.{tab};
 ghost use Rattle.fields.specs.Search.{skip, isMark, Clear, recognized};
 ghost use Rattle.fields.specs.Scan.{byteAt4, markAt, prologueAt, placeAfter, noAddress, addressFrom, dataFrom, noPair, pairFrom};
 ghost use Rattle.fields.specs.Editions.{markOf, nibblesOf, perTrack, interleave};
@@ -204,14 +205,25 @@ pub fn per_track(ed: Edition) -> u8
     }
 }
 
-// The DOS sector of address sector p.
+// The DOS sectors of address sectors 0 to 15: the interleave figure of Beneath Apple DOS.
+const DOS_SECTORS: [u8; 16] = [0, 7, 14, 6, 13, 5, 12, 4, 11, 3, 10, 2, 9, 1, 8, 15];
+
+// That table, to be lent to every step of a call.
+pub fn dos_sectors() -> [u8; 16]
+    ensures { λ r. ⌜ r ≡ tab interleave 16 ⌝ }
+{
+    DOS_SECTORS
+}
+
+// The DOS sector of address sector p. Past 15, which no disk has, the first fifteen come again.
 pub fn dos_sector(p: u8) -> u8
     ensures { λ r. ⌜ r ≡ interleave p ⌝ }
 {
-    if p == 15 {
-        return 15;
+    let order = dos_sectors();
+    if p < 16 {
+        return order[p as usize];
     }
-    (7 * (p as u16) % 15) as u8
+    order[(p % 15) as usize]
 }
 
 // The place behind the first address prologue from i on, 0 where there is none.

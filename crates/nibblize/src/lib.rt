@@ -3,14 +3,15 @@ ghost use mathlib.Core.Path.{_≡_};
 ghost use mathlib.Core.List.{_++_};
 ghost use Prim.Native.Nat.{_+_, _*_, _≤_, _<_};
 ghost use lib.ListN.{length, replicate};
-ghost use Rattle.lists.specs.Fill.{put, placed, cats};
+ghost use Rattle.lists.specs.Fill.{tab, put, placed, cats};
 ghost use Rattle.outcome.specs.Outcome.{Hands};
+ghost use Rattle.fields.specs.Editions.{interleave};
 ghost use Rattle.nibblize.specs.Nibblize.{addressWriting, sectorWriting, block, nibblized};
 use disk::Place;
 use disk::Sector;
 use disk::Track;
 use disk::byte_of;
-use fields::dos_sector;
+use fields::dos_sectors;
 use lists::copy_at;
 use lists::fill_at;
 use nibble::build_nibble_byte_4_and_4;
@@ -64,14 +65,22 @@ fn put_sector(src: &[u8], out: &mut [u8], at: usize, volume: u8, track: u8, sect
     copy_at(&tail, out, at + 413);
 }
 
+// The DOS sector of address sector p, from the table that the caller holds.
+fn dos_sector_in(order: &[u8; 16], p: u8) -> u8
+    requires { ⌜ (now order ≡ tab interleave 16) × (p < 16) ⌝ }
+    ensures { λ r. ⌜ r ≡ interleave p ⌝ }
+{
+    order[p as usize]
+}
+
 // Puts address sector k % 16 of track k / 16 in at its place.
-fn put_block(disk: &[u8], out: &mut [u8], k: usize, volume: u8)
-    requires { ⌜ (length (now disk) ≡ 143360) × (232960 ≤ length (now out)) × (k < 560) ⌝ }
+fn put_block(order: &[u8; 16], disk: &[u8], out: &mut [u8], k: usize, volume: u8)
+    requires { ⌜ (now order ≡ tab interleave 16) × (length (now disk) ≡ 143360) × (232960 ≤ length (now out)) × (k < 560) ⌝ }
     ensures { λ _. ⌜ now (out .exit) ≡ put (416 * k) (block volume (now (disk .entry)) k) (now (out .entry)) ⌝ }
 {
     let t = (k / 16) as u8;
     let p = (k % 16) as u8;
-    let d = dos_sector(p);
+    let d = dos_sector_in(order, p);
     let start = 256 * (16 * (t as usize) + d as usize);
     let end = start + 256;
     put_sector(&disk[start..end], out, 416 * k, volume, t, p);
@@ -82,9 +91,10 @@ fn put_blocks(disk: &[u8], out: &mut [u8], volume: u8)
     requires { ⌜ (length (now disk) ≡ 143360) × (232960 ≤ length (now out)) ⌝ }
     ensures { λ _. ⌜ now (out .exit) ≡ put 0 (cats (block volume (now (disk .entry))) 560) (now (out .entry)) ⌝ }
 {
+    let order = dos_sectors();
     let mut k: usize = 0;
     while k < 560 {
-        put_block(disk, out, k, volume);
+        put_block(&order, disk, out, k, volume);
         k += 1;
     }
 }

@@ -6,8 +6,6 @@ use mathlib.Core.Logic.{_⊎_, inl, inr, ⊎-elim}
 use mathlib.Core.List.{List, [], _∷_, _++_, flatten}
 use Prim.Native.Nat.{ℕ, zero, suc, _+_, _-_, _*_, _/_, _%_, _≤_, _<_}
 use native.Mathlib.Omega.{arith}
-use mir.Syntax.{w64}
-use mir.Val.{Fits}
 use borrow.Author.Needs.{needs}
 use borrow.Author.Tests.{eq-eqb, ne-eqb, lt-ltb, le-ltb, eqb-true, ltb-false}
 use lib.Dec.{eqb, ltb}
@@ -241,18 +239,16 @@ module _ (ed : Edition) (s : List ℕ) (v i : ℕ) (good : Bool) (at d₀ d : Li
         let o : number (image ed s) ≡ number (fieldsFrom ed s (p .next)) = met-refused (fieldsFrom ed s (p .next)) refl (λ k. y (z ∙ k)) in
         record { number-is = z ∙ sym o; image-is = λ k. absurd (y k) }
 
+    -- a pair that is no stranger is on the disk
+    pub track-in : b ≡ false → p .track ≤ 34
+    track-in t = known ed v (p .volume) (p .track) (p .sector) (sym q ∙ t) .1
+
+    pub sector-in : b ≡ false → p .sector < perTrack ed
+    sector-in t = known ed v (p .volume) (p .track) (p .sector) (sym q ∙ t) .2
+
     module _ (t : b ≡ false) (k : ℕ) (ek : k ≡ numberOf ed p) where
-      pub number-lt : k < 35 * perTrack ed
+      number-lt : k < 35 * perTrack ed
       number-lt = let a = known ed v (p .volume) (p .track) (p .sector) (sym q ∙ t) in rw ek (number-below ed (p .track) (dosSector ed (p .sector)) (a .1) (dos-lt ed (p .sector) (a .2)))
-
-      pub number-in : k < 560
-      number-in = omega (arith, number-lt, per-small ed)
-
-      pub number-fits : Fits w64 (k * 8)
-      number-fits = record { fits = omega (arith, number-lt, per-small ed) }
-
-      pub number-times : Fits w64 (256 * k)
-      number-times = record { fits = omega (arith, number-lt, per-small ed) }
 
       pub number-room : 256 * k + 256 ≤ length d
       number-room = omega (arith, number-lt, w .size, w .room)
@@ -423,7 +419,7 @@ module _ (ed : Edition) (s : List ℕ) (v i : ℕ) (good : Bool) (at d₀ d : Li
       rw q (record { number-is = rw o refl; image-is = λ k. o })
 
 pub ruleset collecting =
-    (collecting-start, collect-bad, pair-fits, pair-less, collect-stranger, number-in, number-fits, number-times, number-room, collecting-turn, collect-end, needs)
+    (collecting-start, collect-bad, pair-fits, pair-less, collect-stranger, track-in, sector-in, number-room, collecting-turn, collect-end, needs)
 
 -- ---- denibblize: room for either edition, and the returns
 pub disk-room : (ed : Edition) (d : List ℕ) → length d ≡ 143360 → 256 * (35 * perTrack ed) ≤ length d

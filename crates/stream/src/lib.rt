@@ -2,16 +2,16 @@
 ghost use mathlib.Core.Path.{_≡_};
 ghost use Prim.Native.Nat.{_+_, _*_, _≤_, _<_};
 ghost use lib.ListN.{length, take, drop};
-ghost use Rattle.lists.specs.Fill.{put};
+ghost use Rattle.lists.specs.Fill.{tab, put};
 ghost use Rattle.outcome.specs.Outcome.{number, Hands};
 ghost use Rattle.fields.specs.declared.Edition.the-variants.{Sixteen, Thirteen};
-ghost use Rattle.fields.specs.Editions.{nibblesOf, perTrack, dosSector, sumOf, dataOf};
+ghost use Rattle.fields.specs.Editions.{nibblesOf, perTrack, interleave, dosSector, sumOf, dataOf};
 ghost use Rattle.fields.specs.Scan.{fieldsFrom};
 ghost use Rattle.stream.specs.Steps.{keyed, firstPlace, verdict, Repeats, Judges, Locates, strange, numberOf, sumCounts, heldIn, Complete, Decides, Meets, Collects};
 ghost use Rattle.stream.specs.Stream.{Denibblized, sectorOf};
 use fields::Edition;
 use fields::FieldPair;
-use fields::dos_sector;
+use fields::dos_sectors;
 use fields::nibbles_in;
 use fields::parse_nib_sector;
 use fields::per_track;
@@ -192,12 +192,13 @@ pub fn sector_13(s: &[u8], volume: u8, track: u8, sector: u8, out: &mut [u8]) ->
     sector_of(s, volume, track, sector, out, Edition::Thirteen)
 }
 
-// The DOS sector of address sector p in an edition.
-fn dos_sector_of(p: u8, ed: Edition) -> u8
+// The DOS sector of address sector p in an edition: of 16, by the table that the caller holds.
+fn dos_sector_of(order: &[u8; 16], p: u8, ed: Edition) -> u8
+    requires { ⌜ (now order ≡ tab interleave 16) × (p < 16) ⌝ }
     ensures { λ r. ⌜ r ≡ dosSector ed p ⌝ }
 {
     match ed {
-        Edition::Sixteen => dos_sector(p),
+        Edition::Sixteen => order[p as usize],
         Edition::Thirteen => p,
     }
 }
@@ -241,10 +242,12 @@ fn times(a: u8, b: u8) -> usize
 }
 
 // The number of the DOS sector that a pair holds.
-fn sector_number(p: FieldPair, ed: Edition) -> usize
-    ensures { λ r. ⌜ r ≡ numberOf ed p ⌝ }
+fn sector_number(order: &[u8; 16], p: FieldPair, ed: Edition) -> usize
+    requires { ⌜ (now order ≡ tab interleave 16) × (p .track ≤ 34) × (p .sector < perTrack ed) ⌝ }
+    ensures is { λ r. ⌜ r ≡ numberOf ed p ⌝ }
+    ensures small { λ r. ⌜ r < 560 ⌝ }
 {
-    times(per_track(ed), p.track) + dos_sector_of(p.sector, ed) as usize
+    times(per_track(ed), p.track) + dos_sector_of(order, p.sector, ed) as usize
 }
 
 // Decodes the field of p into disk from place `at` if it is the first of its sector: then `old` is 0. The answer: the sums of the fields that count are right, p among them.
@@ -315,6 +318,7 @@ fn collect(s: &[u8], disk: &mut [u8], ed: Edition) -> u8
     ensures { λ r. ⌜ Collects ed (now (s .entry)) (now (disk .exit)) r ⌝ }
 {
     let first = parse_nib_sector(s, 0, ed);
+    let order = dos_sectors();
     let mut i: usize = 0;
     let mut good = true;
     let mut at = [0usize; 560];
@@ -329,7 +333,7 @@ fn collect(s: &[u8], disk: &mut [u8], ed: Edition) -> u8
         if is_stranger(p, first.volume, ed) {
             return stranger_met(s, p.next, ed);
         }
-        let k = sector_number(p, ed);
+        let k = sector_number(&order, p, ed);
         let old = at[k];
         good = decode_first(s, p, old, good, disk, 256 * k, ed);
         at[k] = first_place(old, true, p.nibbles);

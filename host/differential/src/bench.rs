@@ -646,6 +646,13 @@ fn nibbles(work: &mut Work) {
         |w| w.denibblize(),
         |w| w.rust_stream(),
     );
+    // image-rider writes no stream: its encoding of as many sectors stands beside ours.
+    beside_rust(
+        work,
+        "a flat disk to a full stream",
+        |w| w.nibblize(),
+        |w| (0..560).for_each(|_| w.rust_sector()),
+    );
     // Nothing stands beside it but our own reading of 16 sectors a track.
     work.denibblize_13();
     assert_eq!(work.out[..SIZE_13], work.disk_13[..]);

@@ -8,7 +8,7 @@ put-block-spec =
     (tie.spec
     (λ c. search blocks)  -- cast-t
     (λ c. search blocks)  -- cast-p
-    (λ c κs. search blocks)  -- dos-sector-requires
+    (λ c κs. search blocks)  -- dos-sector-in-requires
     (λ c. search blocks)  -- cast-start
     (λ c. search blocks)  -- mul-start
     (λ c. search blocks)  -- cast-start-2

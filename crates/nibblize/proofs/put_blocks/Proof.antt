@@ -4,10 +4,10 @@ use Rattle.nibblize.proofs.put_blocks.Statement.{statement}
 use Rattle.nibblize.proofs.put_blocks.Tie as tie
 
 abbrev Inv-loop : tie.InvT-loop
-Inv-loop disk out₀ volume k₀ out k = Writing volume disk out₀ out k
+Inv-loop disk out₀ volume order k₀ out k = Writing volume disk out₀ out k
 
 abbrev μ-loop : tie.MeasureT-loop
-μ-loop disk out₀ volume k₀ out k = 560 - k
+μ-loop disk out₀ volume order k₀ out k = 560 - k
 
 pub put-blocks-spec : {M : Type 1} → statement M
 put-blocks-spec =
@@ -15,6 +15,7 @@ put-blocks-spec =
     (tie.spec
     Inv-loop
     μ-loop
+    (λ c κs. search writes)  -- dos-sectors-requires
     (λ c. search writes)  -- loop-holds
     (λ c κs. search writes)  -- put-block-requires
     (λ c. search writes)  -- add-k

@@ -5,10 +5,10 @@ use Rattle.stream.proofs.collect.Statement.{statement}
 use Rattle.stream.proofs.collect.Tie as tie
 
 abbrev Inv-loop : tie.InvT-loop
-Inv-loop s disk₀ ed first i₀ good₀ at₀ disk i good at = Collecting ed s (first .volume) i good at disk₀ disk
+Inv-loop s disk₀ ed first order i₀ good₀ at₀ disk i good at = Collecting ed s (first .volume) i good at disk₀ disk
 
 abbrev μ-loop : tie.MeasureT-loop
-μ-loop s disk₀ ed first i₀ good₀ at₀ disk i good at = length s - i
+μ-loop s disk₀ ed first order i₀ good₀ at₀ disk i good at = length s - i
 
 pub collect-spec : {M : Type 1} → statement M
 collect-spec =
@@ -17,6 +17,7 @@ collect-spec =
     Inv-loop
     μ-loop
     (λ c κs. search collecting)  -- parse-nib-sector-requires
+    (λ c κs. search collecting)  -- dos-sectors-requires
     (λ c. search collecting)  -- loop-holds
     (λ c κs. search collecting)  -- parse-nib-sector-requires-2
     (λ c. search collecting)  -- same-length

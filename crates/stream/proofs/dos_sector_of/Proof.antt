@@ -7,7 +7,7 @@ dos-sector-of-spec =
     tie.close
     (tie.spec
     (λ c. search told)  -- enum-told
-    (λ c κs. search told)  -- dos-sector-requires
+    (λ c. search told)  -- element-copy-out-result
     (λ c. search told)  -- enum-told-2
     (λ c. search told)  -- returns
     (λ c. search told)  -- returns-2
