@@ -122,12 +122,12 @@ fn the_order_on_a_track() {
     assert_eq!(denibblize(&stream).unwrap(), bytes);
     // Each address says the next sector, so the reader puts each sector where the figure has that one.
     let mut moved = bytes.clone();
-    for track in 0..35usize {
-        for sector in 0..16usize {
+    for track in 0..35 {
+        for (sector, dos) in FIGURE.into_iter().enumerate() {
             let next = (sector + 1) % 16;
             let place = field(track, sector);
             address(&mut stream, place, volume, track as u8, next as u8);
-            let from = at(track, FIGURE[sector]);
+            let from = at(track, dos);
             let to = at(track, FIGURE[next]);
             moved[to..to + 256].copy_from_slice(&bytes[from..from + 256]);
         }
