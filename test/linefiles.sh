@@ -788,6 +788,15 @@ patch stranger.nib "$(nib 2 0 57)" ff ff
 same denibblize-stranger denibblize stranger.nib outs/none
 holds denibblize-nothing-left not test -e outs/none
 
+# the order on a track: the DOS sector that is missed where the address of sector 0, 1 and so on is gone, as the interleave figure of the book has them
+sector=0
+for dos in 0 7 14 6 13 5 12 4 11 3 10 2 9 1 8 15; do
+    damaged gone.nib one-page.nib "$(nib 9 $sector 48)" ff
+    run denibblize gone.nib outs/none
+    holds "order-$sector" grep -qx "  1 sector is not there, the first is track 9, DOS sector $dos" err
+    sector=$((sector + 1))
+done
+
 # the last pair of a list: a file of 121 pairs, one of 122 and no next list, one of 122 and a next list
 rm -f outs/*
 same list-last-pair list samples/last-pair.dsk
