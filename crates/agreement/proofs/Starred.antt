@@ -10,6 +10,7 @@ use Rattle.lists.specs.Fill.{padded}
 use Rattle.lists.specs.Words.{wordAt}
 use Rattle.outcome.specs.Outcome.{number}
 use Rattle.disk.specs.Disk.{place, onDisk, sized}
+use Rattle.disk.specs.Vtoc.{percent}
 use Rattle.disk.specs.Window.{sectorIn}
 use Rattle.catalog.specs.Catalog.{shown, trimmed}
 use Rattle.files.specs.Contents.{File, bytesIn}
@@ -40,7 +41,7 @@ unfolding blocksIn
 one-entry v k f h = rw h refl
 
 pub starred : Cases
-unfolding interleave shown trimmed onDisk archive firstBlock entryChain padded blocksIn
+unfolding interleave percent shown trimmed onDisk archive firstBlock entryChain padded blocksIn
 starred =
     record {
       four-AA-AA = refl;
@@ -54,6 +55,7 @@ starred =
       fill-13 = refl;
       fill-14 = refl;
       fill-560 = refl;
+      fill-42 = refl;
       name-A = refl;
       name-none = refl;
       place-34-15 = refl;

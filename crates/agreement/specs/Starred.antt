@@ -30,10 +30,11 @@ pub record Starred : Type 0 where
   -- zeros but last byte FFh: nibbles 83 and 84 EDh, nibble 341 FFh, sum FFh, others 96h
   pub last : encode (replicate 255 0 ++ (0xFF ∷ []))
       ≡ replicate 83 0x96 ++ (0xED ∷ 0xED ∷ []) ++ replicate 256 0x96 ++ (0xFF ∷ 0xFF ∷ [])
-  -- used 13 is fill 2, 14 is 3, 560 is 100
+  -- used 13 is fill 2, 14 is 2 (3 before document 02, Req 04), 560 is 100; and 42 is 8
   pub fill-13 : percent 560 13 ≡ 2
-  pub fill-14 : percent 560 14 ≡ 3
+  pub fill-14 : percent 560 14 ≡ 2
   pub fill-560 : percent 560 560 ≡ 100
+  pub fill-42 : percent 560 42 ≡ 8
   -- name C1, then 29 of A0: "A"
   pub name-A : shown (0xC1 ∷ replicate 29 0xA0) ≡ 0x41 ∷ []
   -- thirty A0: length 0

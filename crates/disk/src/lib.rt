@@ -168,12 +168,21 @@ fn used_of(total: u32, free: u32) -> u32
     if total < free { 0 } else { total - free }
 }
 
-// 100 times used / total, a half going up.
+// 100 times used / total, to the nearest number; exactly halfway, to the even one.
 fn percent_of(total: u32, used: u32) -> u32
     requires { ⌜ (0 < total) × (total ≤ 8925) × (used ≤ 8925) ⌝ }
     ensures { λ r. ⌜ r ≡ percent total used ⌝ }
 {
-    (200 * used + total) / (2 * total)
+    let hundredfold = 100 * used;
+    let below = hundredfold / total;
+    let rest = hundredfold % total;
+    if 2 * rest < total {
+        return below;
+    }
+    if total < 2 * rest {
+        return below + 1;
+    }
+    below + below % 2
 }
 
 // A refusal: every other field is zero.

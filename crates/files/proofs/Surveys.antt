@@ -1,8 +1,8 @@
 -- The survey's numbers are bounded: links by the roll's length, and the fill by 100. Assumes nothing.
 use mathlib.Core.Path.{_≡_, refl, sym, ap, _∙_}
 use mathlib.Core.List.{List, [], _∷_, map}
-use Prim.Native.Nat.{ℕ, zero, suc, _+_, _*_, _<_, _≤_}
-use native.Mathlib.Nat.{mul-suc, div-lt-iff-lt-mul, div-zero}
+use Prim.Native.Nat.{ℕ, _+_, _*_, _<_, _≤_}
+use native.Mathlib.Nat.{mul-suc}
 use native.Mathlib.Numerals.{add-one}
 use native.Mathlib.Omega.{arith}
 use lib.ListN.{length}
@@ -10,8 +10,9 @@ use Rattle.lists.specs.Fill.{Bytes}
 use Rattle.lists.specs.Every.{Every}
 use Rattle.lists.specs.Every
 use Rattle.disk.specs.declared.Place.{Place}
-use Rattle.disk.specs.Vtoc.{percent}
 use Rattle.disk.specs.Disk.{sectors}
+use Rattle.disk.specs.Percent.{Nearest}
+use Rattle.disk.proofs.Percent.{percent-small, rounding}
 use Rattle.outcome.specs.declared.Refusal.{Refusal}
 use Rattle.outcome.specs.Outcome.{Outcome, refused, given, each}
 use Rattle.outcome.proofs.Outcome.{gives, refused-given, each-all, each-also, length-each}
@@ -22,15 +23,6 @@ use Rattle.files.proofs.Order.{contents-given, file-given, lists-short}
 use Rattle.files.proofs.Proper.{all-short}
 use Rattle.files.specs.Survey.{blocksIn}
 use Rattle.files.specs.Survey.{Survey, surveyOf, survey, sumOf}
-
--- a part of a whole is at most 100 of 100
-pub percent-small : (total used : ℕ) → used ≤ total → percent total used ≤ 100
-percent-small zero used h = rw div-zero (omega arith)
-percent-small (suc t) used h =
-    let k : 0 < 2 * suc t = omega arith in
-    let m : 200 * used + suc t < 101 * (2 * suc t) = omega arith in
-    let z : percent (suc t) used < 101 = div-lt-iff-lt-mul k .1 m in
-    omega arith
 
 -- a sum of numbers that are at most m
 sum-small : (m : ℕ) (l : List (List Place)) → Every (λ (ps : List Place). length ps ≤ m) l → sumOf (map length l) ≤ m * length l
@@ -97,6 +89,10 @@ module _ (n : ℕ) (d : List ℕ) where
   -- the fill
   pub percent-bound : (s : Survey) → survey n d ≡ given s → s .percentUsed ≤ 100
   percent-bound s h = let t = survey-given s h in rw (t .8) (percent-small (sectors n) _ (omega arith))
+
+  -- .. which is the nearest number (Req 04)
+  pub percent-near : 0 < n → (s : Survey) → survey n d ≡ given s → Nearest (sectors n) (s .used) (s .percentUsed)
+  percent-near some s h = let t = survey-given s h in rw (t .8) (rounding .nearest (sectors n) _ (omega arith))
 
   -- the archive, where the disk is one of bytes
   pub blocks-bound : Bytes d → (s : Survey) → survey n d ≡ given s → s .archiveBlocks ≤ 260 * s .entries + 1

@@ -1,6 +1,6 @@
 // Answers of the calls on disks of both editions: of 13 sectors a track (document 02, Req 12), with lists of 121 and 122 pairs (Req 05), with the catalog on any
-// track (Req 08) and with names that show alike (Req 07). Standard input is a script, a line of six bytes in hexadecimal for each step. The head of laying has the steps
-// that lay the disks, 00 to 02 and 15. There is an archive at hand that is empty at first. KK is an edition, 0D or 10; what is not named is 00:
+// track (Req 08), with names that show alike (Req 07) and with the percent used at a half (Req 04). Standard input is a script, a line of six bytes in hexadecimal for
+// each step. The head of laying has the steps that lay the disks, 00 to 02, 15 and 23. There is an archive at hand that is empty at first. KK is an edition, 0D or 10; what is not named is 00:
 //     0D KK          show the VTOC
 //     0E KK          show the survey
 //     0F KK TT SS    show the window
@@ -129,7 +129,7 @@ fn show(disk: &[u8], hand: &mut [u8], size: usize, step: [u8; 6]) -> usize {
 
 fn act(disks: &mut [u8], hand: &mut [u8], size: usize, step: [u8; 6]) -> usize {
     match step[0] {
-        0..=2 | 0x15 => laying::change(disks, step),
+        0..=2 | 0x15 | 0x23 => laying::change(disks, step),
         _ => {
             return show(laying::disk_of(disks, step[1]), hand, size, step);
         },
