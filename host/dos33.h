@@ -163,7 +163,8 @@ uint8_t dos33_window(const uint8_t *disk, size_t disk_length,
 
 /* 13 numbers: first catalog track, first catalog sector, release, volume byte, pair maximum,
    last track, direction (the byte, 255 for -1), tracks, sectors, sector size, free, used, fill.
-   The last three are over all sectors of the disk, 560 or 455. 1, 2, 12. */
+   The last three are over all sectors of the disk, 560 or 455. Fill is 100 times used by these, to
+   the nearest number; exactly halfway, to the even one: 14 of 560 are 2, 42 are 8. 1, 2, 12. */
 uint8_t dos33_vtoc(const uint8_t *disk, size_t disk_length,
                    uint64_t *fields, size_t fields_length);
 

@@ -207,6 +207,35 @@ same survey-several-pages survey samples/several-pages.dsk
 same survey-full survey samples/full.dsk
 same survey-overlong survey samples/overlong.dsk
 same survey-ring survey samples/ring.dsk
+# percent used at the half: exactly halfway to the even number, beside it to the nearest
+while read -r used percent; do
+    map=()
+    for ((track = 0; track < 35; track++)); do
+        left=$((used - 16 * track))
+        left=$((left < 0 ? 0 : left > 16 ? 16 : left))
+        bits=$(printf %04x $((0xFFFF << left & 0xFFFF)))
+        map+=("${bits:0:2}" "${bits:2}" 00 00)
+    done
+    damaged used.dsk one-page.dsk "$(at 17 0 56)" "${map[@]}"
+    run survey used.dsk
+    holds "survey-used-$used" test "$status $(sed -n 's/ sectors / /; s/^  \(free\|used\|percent used\)  */\1 /p' out | tr '\n' ' ')" = "0 free $((560 - used)) used $used percent used $percent "
+    run survey used.dsk --json
+    holds "survey-used-$used-json" test "$status $(sed -n '/"percent_used"/p' out)" = "0   \"percent_used\": $percent,"
+done <<'end'
+0 0
+13 2
+14 2
+15 3
+41 7
+42 8
+43 8
+70 12
+98 18
+518 92
+546 98
+547 98
+560 100
+end
 same map-one-page map samples/one-page.dsk
 holds map-one-page-plain plain out
 same map-several-pages map samples/several-pages.dsk

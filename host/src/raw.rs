@@ -36,7 +36,8 @@ extern "C" {
 
     /// 13 numbers: first catalog track, first catalog sector, release, volume byte, pair maximum, last
     /// track, direction (a byte), tracks, sectors, sector size, free, used, fill. The last three are over
-    /// 560 sectors, or 455. Refusals 1, 2, 12.
+    /// 560 sectors, or 455; fill is used in percent, to the nearest number, exactly halfway to the even
+    /// one. Refusals 1, 2, 12.
     pub fn dos33_vtoc(
         disk: *const u8,
         disk_length: usize,

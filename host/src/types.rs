@@ -258,7 +258,8 @@ pub struct Vtoc {
     pub free: u16,
     /// Used sectors: 560 or 455, less free.
     pub used: u16,
-    /// Used in percent, a half going up.
+    /// 100 times used / all sectors, to the nearest number; exactly halfway, to the even one: 14 of 560 are
+    /// 2 percent, 42 are 8.
     pub percent_used: u8,
 }
 
@@ -274,7 +275,7 @@ pub struct Survey {
     pub free: u16,
     /// Used sectors.
     pub used: u16,
-    /// Used in percent, a half going up.
+    /// Used in percent, as in [`Vtoc`].
     pub percent_used: u8,
     /// Blocks of the disk's archive. Over 4,096 the archive itself is refused.
     pub archive_blocks: u64,

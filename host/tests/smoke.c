@@ -76,6 +76,15 @@ int main(void) {
     /* The flat disk. */
     EXPECT(dos33_vtoc(disk, sizeof disk, f, DOS33_VTOC_FIELDS) == 0);
     EXPECT(f[3] == 254 && f[7] == 35 && f[8] == 16 && f[10] == 0 && f[11] == 560 && f[12] == 100);
+    /* 14 and 42 sectors used: exactly halfway, to the even number. */
+    memset(at(17, 0) + 56, 0xFF, 140);
+    at(17, 0)[56] = 0x00;
+    at(17, 0)[57] = 0x03;
+    EXPECT(dos33_vtoc(disk, sizeof disk, f, DOS33_VTOC_FIELDS) == 0 && f[11] == 14 && f[12] == 2);
+    memset(at(17, 0) + 56, 0, 9);
+    at(17, 0)[65] = 0x3F;
+    EXPECT(dos33_survey(disk, sizeof disk, f, DOS33_SURVEY_FIELDS) == 0 && f[3] == 42 && f[4] == 8);
+    memset(at(17, 0) + 56, 0, 140);
     EXPECT(dos33_catalog(disk, sizeof disk, out, sizeof out, &n) == 0);
     EXPECT(n == 37 && memcmp(out, listed, 37) == 0);
     EXPECT(dos33_lists(disk, sizeof disk, 0, out, sizeof out, &n) == 0);

@@ -487,37 +487,6 @@ fn each_bit_of_the_map() {
     }
 }
 
-// Free, used and percent over 455, for every number that there can be.
-#[test]
-fn every_fill() {
-    let mut d = disk_13();
-    let map = at_13(17, 0) + 56;
-    // The bits that are not counted, of every track.
-    for track in 0..35 {
-        d[map + 4 * track..map + 4 * track + 4].copy_from_slice(&[0, 7, 0xFF, 0xFF]);
-    }
-    for free in 0..=455u16 {
-        if free > 0 {
-            let (track, bit) = (usize::from(free - 1) / 13, usize::from(free - 1) % 13);
-            d[map + 4 * track + bit / 8] |= 0x80 >> (bit % 8);
-        }
-        let used = 455 - free;
-        let percent = ((200 * u32::from(used) + 455) / 910) as u8;
-        let vtoc = Disk::flat(&d).vtoc().unwrap();
-        assert_eq!(
-            (vtoc.free, vtoc.used, vtoc.percent_used),
-            (free, used, percent)
-        );
-        if free % 50 == 5 {
-            let survey = Disk::flat(&d).survey().unwrap();
-            assert_eq!(
-                (survey.free, survey.used, survey.percent_used),
-                (free, used, percent)
-            );
-        }
-    }
-}
-
 #[test]
 fn catalog() {
     both(|d, _| {
