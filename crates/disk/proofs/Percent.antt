@@ -54,14 +54,14 @@ module _ (total used q r : ℕ) (e : total * q + r ≡ 100 * used) (l : r < tota
   near-below : 2 * r < total → Nearest total used q
   near-below h =
       let a = mul-assoc 2 total q in
-      record { up = omega arith; down = omega arith; even = λ w. let y = half-rest w in absurd (omega arith) }
+      record { below = omega arith; above = omega arith; even = λ w. let y = half-rest w in absurd (omega arith) }
 
   -- .. more than a half
   near-above : total < 2 * r → Nearest total used (q + 1)
   near-above h =
       let a = mul-assoc 2 total (suc q) in
       let b = mul-suc total q in
-      record { up = omega arith; down = omega arith; even = λ w. let y = half-rest w in absurd (omega arith) }
+      record { below = omega arith; above = omega arith; even = λ w. let y = half-rest w in absurd (omega arith) }
 
   -- .. and a half: q where it is even, else the next
   near-half : 2 * r ≡ total → Nearest total used (q + q % 2)
@@ -70,8 +70,8 @@ module _ (total used q r : ℕ) (e : total * q + r ≡ 100 * used) (l : r < tota
       let b = mul-assoc 2 total (suc q) in
       let c = mul-suc total q in
       by-lt (q % 2) 1
-      (λ z. let i : q + q % 2 ≡ q = omega arith in rw i (record { up = omega arith; down = omega arith; even = λ w. omega arith }))
-      (λ z. let i : q + q % 2 ≡ suc q = omega arith in rw i (record { up = omega arith; down = omega arith; even = λ w. omega arith }))
+      (λ z. let i : q + q % 2 ≡ q = omega arith in rw i (record { below = omega arith; above = omega arith; even = λ w. omega arith }))
+      (λ z. let i : q + q % 2 ≡ suc q = omega arith in rw i (record { below = omega arith; above = omega arith; even = λ w. omega arith }))
 
 -- the percent used is such a number
 nearest : (total used : ℕ) → 0 < total → Nearest total used (percent total used)
@@ -92,8 +92,8 @@ not-less total used p q h a b l =
     let x = mul-suc total p in
     let y = mul-assoc 2 total p in
     let z = mul-assoc 2 total q in
-    let i = a .up in
-    let j = b .down in
+    let i = a .below in
+    let j = b .above in
     let w : Halfway total used = (p, omega arith) in
     let n : q ≤ suc p = le-of-mul-le-mul-left {k = total} (omega arith) h in
     let s = a .even w in
@@ -129,7 +129,7 @@ rounding =
 
 -- none of a total is 0
 pub near-none : (total : ℕ) → Nearest total 0 0
-near-none total = record { up = omega arith; down = omega arith; even = λ w. refl }
+near-none total = record { below = omega arith; above = omega arith; even = λ w. refl }
 
 -- a part of a whole is at most 100 of 100
 pub percent-small : (total used : ℕ) → used ≤ total → percent total used ≤ 100
@@ -137,7 +137,7 @@ unfolding percent
 percent-small total used h =
     by-lt 0 total
     (λ z.
-    let a = nearest total used z .down in
+    let a = nearest total used z .above in
     let b : percent total used < 101 = lt-of-mul-lt-mul-left (2 * total) (omega arith) in
     omega arith)
     (λ z. let e : total ≡ 0 = omega arith in let i : used ≡ 0 = omega arith in rw (e, i) (omega arith))

@@ -10,8 +10,10 @@ Halfway total used = (k : ℕ) × (200 * used ≡ 2 * total * k + total)
 
 -- p is never more than half a percent from 100 times used / total; exactly halfway, it is even
 pub record Nearest (total used p : ℕ) : Type 0 where
-  pub up : 200 * used ≤ 2 * total * p + total
-  pub down : 2 * total * p ≤ 200 * used + total
+  -- no more than a half below
+  pub below : 200 * used ≤ 2 * total * p + total
+  -- .. or above
+  pub above : 2 * total * p ≤ 200 * used + total
   pub even : Halfway total used → p % 2 ≡ 0
 
 -- Req 04, for every total that is not zero and every used
