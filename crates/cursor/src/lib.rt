@@ -1,6 +1,7 @@
 // An archive that is stepped through entry by entry, without a copy: document 01, "Return" ("A display steps through a return entry by entry without copying
 // it"). The borrow checker does not cover a struct that holds a slice, so the functions on `Reader` are proved by hand: they call `look_at`, and store.
 // (The Rust has none.)
+#![tactic(auto)]
 ghost use Rattle.std.specs.Prelude.{◌≡◌};
 ghost use Rattle.archive.specs.Reader.{opened};
 ghost use Rattle.reader.specs.Steps.{opened_with, entry_step};

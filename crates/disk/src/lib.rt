@@ -1,4 +1,6 @@
 // A flat Apple DOS disk: locations, the window, and the volume table of contents (disk.rs).
+#![tactic(auto)]
+
 ghost use Rattle.std.specs.Prelude.{◌≡◌, ℕ, ◌+◌, ◌*◌, ◌-◌, ◌<◌, ◌≤◌, cond, length};
 ghost use Rattle.std.specs.Int.Count.{ones};
 ghost use Rattle.outcome.specs.Outcome.{number};

@@ -1,4 +1,5 @@
 // The sectors of a saved file, lists and data, written to a flat disk: Req 09. Not of the Rust.
+#![tactic(auto)]
 ghost use Rattle.std.specs.Prelude.{◌≡◌, ◌<◌, ◌≤◌, length};
 ghost use Rattle.filing.specs.Filing.{place_in, Filed};
 ghost use Rattle.filing.specs.Steps.{ListMade, DataMade, DataPut, ListsWritten, DataWritten};

@@ -1,4 +1,6 @@
 // Bytes in slices: total reads, copies into lent space, comparison, and numbers of two bytes. Not of the Rust, which has its iterators for them.
+#![tactic(auto)]
+
 ghost use Rattle.std.specs.Prelude.{◌≡◌, ◌+◌, ◌≤◌, length, get_or, take, drop, replicate};
 ghost use Rattle.lists.specs.Fill.{put, placed};
 ghost use Rattle.lists.specs.Same.{same, unlike_of};

@@ -1,4 +1,6 @@
 // The 4-and-4 and 6-and-2 codings of Apple DOS 3.3 (nibble.rs): a byte to two bytes, 256 bytes to 343 nibbles, and back. `five_three` has the coding of DOS 3.2.
+#![tactic(auto)]
+
 pub mod five_three;
 mod running;
 mod tables;
