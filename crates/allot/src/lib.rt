@@ -10,7 +10,7 @@ use disk::{Place, Sector, Track, on_disk};
 use lists::{byte_at, copy_at};
 
 // What a search comes to: the sector, and the direction in which it moved.
-#[derive(Drop)]
+#[derive(Clone, Copy)]
 struct Found {
     found: bool,
     place: Place,

@@ -16,7 +16,7 @@ use lists::{byte_at, copy_at, part, put_word, word_at};
 use outcome::{BAD_LETTER, Handed, OFF_DISC, RING, TRAY_SHORT, accepted, refused};
 
 // The number of pages and of live entries that a catalog has, or the number of its refusal.
-#[derive(Drop)]
+#[derive(Clone, Copy)]
 pub struct Pages {
     pub refusal: u8,
     pub count: u16,
@@ -24,14 +24,14 @@ pub struct Pages {
 }
 
 // A shown name: its letters, zeros behind them, and how many letters it has.
-#[derive(Drop)]
+#[derive(Clone, Copy)]
 pub struct Name {
     pub letters: [u8; 30],
     pub length: u8,
 }
 
 // An entry without its name.
-#[derive(Drop)]
+#[derive(Clone, Copy)]
 pub struct EntryHead {
     pub list: Place,
     pub file_type: u8,
@@ -40,7 +40,7 @@ pub struct EntryHead {
 }
 
 // An entry. The type is one of the nine numbers; locked is 0 or 1.
-#[derive(Drop)]
+#[derive(Clone, Copy)]
 pub struct FileEntry {
     pub list: Place,
     pub file_type: u8,
@@ -50,7 +50,7 @@ pub struct FileEntry {
 }
 
 // The answer of the catalog call: the bytes handed over, and the number of pages followed.
-#[derive(Drop)]
+#[derive(Clone, Copy)]
 pub struct Listing {
     pub handed: Handed,
     pub pages: u16,

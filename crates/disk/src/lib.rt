@@ -10,21 +10,21 @@ ghost use Rattle.disk.specs.Window.{sector_in, windowed, part};
 
 use outcome::{NO_TABLE, OFF_DISC, OFF_SIZE};
 
-#[derive(Drop)]
+#[derive(Clone, Copy)]
 pub struct Track(pub u8);
 
-#[derive(Drop)]
+#[derive(Clone, Copy)]
 pub struct Sector(pub u8);
 
 // A location. A track number is never taken for a sector number: the two meet in the location arithmetic alone.
-#[derive(Drop)]
+#[derive(Clone, Copy)]
 pub struct Place {
     pub track: Track,
     pub sector: Sector,
 }
 
 // The fields of the volume table of contents, with the numbers that are made of its map. `refusal` is 0, or why there is no table.
-#[derive(Drop)]
+#[derive(Clone, Copy)]
 pub struct VolumeTableOfContents {
     pub refusal: u8,
     pub track_number_of_first_catalog_sector: u8,

@@ -11,14 +11,14 @@ use nibble::parse_nibble_byte_4_and_4;
 use outcome::ADDRESS_SUM;
 
 // The two editions of a stream: DOS 3.3 with 16 sectors a track, DOS 3.2 with 13.
-#[derive(Drop)]
+#[derive(Clone, Copy)]
 pub enum Edition {
     Sixteen,
     Thirteen,
 }
 
 // An address field: what it says and the place behind it, 0 where there is none. `refusal` is 8 where its sum is wrong.
-#[derive(Drop)]
+#[derive(Clone, Copy)]
 pub struct AddressField {
     pub refusal: u8,
     pub volume: u8,
@@ -28,14 +28,14 @@ pub struct AddressField {
 }
 
 // A data field: the place of its nibbles, the sum among them, and the place behind it; 0 where there is none.
-#[derive(Drop)]
+#[derive(Clone, Copy)]
 pub struct DataField {
     pub nibbles: usize,
     pub next: usize,
 }
 
 // An address and the data that follow it (in the Rust Field). `next` is the place behind them, 0 where there is no pair.
-#[derive(Drop)]
+#[derive(Clone, Copy)]
 pub struct FieldPair {
     pub refusal: u8,
     pub volume: u8,

@@ -34,14 +34,14 @@ pub const MAX_PAIRS: u8 = 122;
 pub const PAIR_BYTES: usize = 2 * MAX_PAIRS as usize;
 
 // The pairs of one list: how many, and whether all are on the disk.
-#[derive(Drop)]
+#[derive(Clone, Copy)]
 pub struct PairRun {
     pub count: u8,
     pub good: bool,
 }
 
 // A chain of lists: how many lists and pairs, and the first pair; or a refusal.
-#[derive(Drop)]
+#[derive(Clone, Copy)]
 pub struct Thread {
     pub refusal: u8,
     pub lists: u16,
@@ -50,7 +50,7 @@ pub struct Thread {
 }
 
 // An entry that was asked for: its first list, its type, and what its lists come to.
-#[derive(Drop)]
+#[derive(Clone, Copy)]
 pub struct Choice {
     pub found: bool,
     pub list: Place,
@@ -59,7 +59,7 @@ pub struct Choice {
 }
 
 // What a pass over the catalog comes to: the first refusal, or the number of entries, of lists, of archive blocks, and the entry asked for.
-#[derive(Drop)]
+#[derive(Clone, Copy)]
 pub struct Totals {
     pub refusal: u8,
     pub entries: u32,
@@ -69,7 +69,7 @@ pub struct Totals {
 }
 
 // The numbers of a survey, or a refusal.
-#[derive(Drop)]
+#[derive(Clone, Copy)]
 pub struct DiskSurvey {
     pub refusal: u8,
     pub volume: u8,
@@ -82,7 +82,7 @@ pub struct DiskSurvey {
 }
 
 // How far a copy has come: the place for the next byte, and how many bytes are still to be passed over.
-#[derive(Drop)]
+#[derive(Clone, Copy)]
 pub struct Spot {
     pub at: usize,
     pub skip: usize,

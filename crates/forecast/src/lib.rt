@@ -15,7 +15,7 @@ use outcome::{Handed, PLAN_LONG, TRAY_SHORT, accepted, refused};
 use saving::{data_for, lists_for, tidy_refusal, vtoc_copy};
 
 // What the saves before have needed, how many lines are left, and from which length on a save is known to end in 21.
-#[derive(Drop)]
+#[derive(Clone, Copy)]
 struct Needs {
     sectors: usize,
     lists: usize,

@@ -17,7 +17,7 @@ use lists::{byte_at, part};
 use outcome::{BAD_LETTER, CUT_LINK, OFF_DISC, RING};
 
 // The report: sectors held by no one, by exactly one holder, by more than one; held sectors that the map calls free; whether the disk is clean. Or a refusal.
-#[derive(Drop)]
+#[derive(Clone, Copy)]
 pub struct HolderCounts {
     pub refusal: u8,
     pub unheld: u16,

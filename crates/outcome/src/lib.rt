@@ -5,7 +5,7 @@ ghost use Rattle.outcome.specs.Outcome.{refused_with, accepted_with};
 ghost use Rattle.outcome.specs.Refusal.{code, refusal_of, word_of, shown_word};
 
 // A refusal. Its word and its number are the paper's.
-#[derive(Drop)]
+#[derive(Clone, Copy)]
 pub enum Refusal {
     // flat disk, or unrolled image that is read, not 143,360 bytes; sector to encode not 256
     OffSize,
@@ -107,18 +107,18 @@ pub const OVER_LIMIT: u8 = 24;
 pub const PLAN_LONG: u8 = 25;
 
 // What a number says.
-#[derive(Drop)]
+#[derive(Clone, Copy)]
 pub enum Meaning {
     Refused(Refusal),
     Nothing,
 }
 
 // A word for output: its letters with zeros behind them, and how many letters it has.
-#[derive(Drop)]
+#[derive(Clone, Copy)]
 pub struct Word(pub [u8; 17], pub u8);
 
 // The answer of a call that hands bytes over in lent space: its refusal's number, 0 for none, and how many bytes it wrote.
-#[derive(Drop)]
+#[derive(Clone, Copy)]
 pub struct Handed {
     pub refusal: u8,
     pub length: usize,

@@ -13,7 +13,7 @@ use outcome::{Handed, OFF_DISC, OFF_SIZE, TRAY_SHORT, accepted, refused};
 
 // One pair.
 #[repr(C)]
-#[derive(Drop)]
+#[derive(Clone, Copy)]
 pub struct TrackSectorPair {
     pub track_number: u8,
     pub sector_number: u8,
@@ -90,7 +90,7 @@ pub fn pair_run(disk: &[u8], track: u8, sector: u8, run: &mut [TrackSectorPair])
 }
 
 // The answer of `run_of_four`, and the run as it is left.
-#[derive(Drop)]
+#[derive(Clone, Copy)]
 pub struct RunOfFour {
     pub answer: Handed,
     pub pairs: [TrackSectorPair; 4],

@@ -14,7 +14,7 @@ use lists::{byte_at, part, same, word_at};
 use outcome::NOT_ITS_RETURN;
 
 // What opening answers: a refusal, or the volume, the first entry block (0 for none) and the number of blocks.
-#[derive(Drop)]
+#[derive(Clone, Copy)]
 pub struct Opened {
     pub refusal: u8,
     pub volume: u8,
@@ -24,7 +24,7 @@ pub struct Opened {
 
 // What a step answers: a refusal; 1 for an entry, 0 for the end; the next entry block (0 after the last), the first data block (0 for no data), and the
 // entry's fields: type, lock, length of the name, sector count, length of the data.
-#[derive(Drop)]
+#[derive(Clone, Copy)]
 pub struct Entry {
     pub refusal: u8,
     pub found: u8,

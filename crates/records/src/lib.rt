@@ -15,7 +15,7 @@ use outcome::{
 };
 
 // What the recogniser answers: its refusal's number, 0 for none, and whether the data is a DOS 3.3 disk.
-#[derive(Drop)]
+#[derive(Clone, Copy)]
 pub struct Format {
     pub refusal: u8,
     pub dos33: bool,

@@ -25,7 +25,7 @@ use records::{file_entry_as_vec, writable_name};
 use sides::{Side, belongs_to, count_held};
 
 // What a look along the lines has found: the last line of a name, and the first that is not in use.
-#[derive(Drop)]
+#[derive(Clone, Copy)]
 struct Sight {
     named: bool,
     line: usize,
@@ -34,7 +34,7 @@ struct Sight {
 }
 
 // Who asks for a save or a delete: a side with its limit; or no side, to whom every name is allowed and no limit is set.
-#[derive(Drop)]
+#[derive(Clone, Copy)]
 struct Asker {
     sided: bool,
     side: Side,

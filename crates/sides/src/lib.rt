@@ -11,7 +11,7 @@ use files::build_file;
 use lists::byte_at;
 
 // Whose a name is, and who calls: the survey office, and we.
-#[derive(Drop)]
+#[derive(Clone, Copy)]
 pub enum Side {
     Survey,
     Ours,

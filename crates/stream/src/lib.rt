@@ -15,7 +15,7 @@ use nibble::{data_sum, five_three, sector_data};
 use outcome::{ABSENT, ADDRESS_SUM, DATA_SUM, Handed, STRANGER, TRAY_SHORT, accepted, refused};
 
 // Where the nibbles of a sector stand, or the number of a refusal.
-#[derive(Drop)]
+#[derive(Clone, Copy)]
 pub(crate) struct Located {
     pub refusal: u8,
     pub nibbles: usize,

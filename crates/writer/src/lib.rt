@@ -18,7 +18,7 @@ use lists::{byte_at, copy_at, fill_at, part, put_word, same, word_at};
 use outcome::{Handed, NOT_ITS_RETURN, OVERLONG, TRAY_SHORT, accepted, refused};
 
 // How far a pass has come: the next block's number, and whether all blocks were equal.
-#[derive(Drop)]
+#[derive(Clone, Copy)]
 pub struct Mark {
     pub block: u32,
     pub good: bool,
