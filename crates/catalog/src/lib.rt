@@ -1,5 +1,6 @@
 // The catalog: its pages and entries (catalog.rs).
 #![tactic(auto)]
+
 ghost use Rattle.std.specs.Prelude.{◌≡◌, cond, ℕ, ◌+◌, ◌*◌, ◌<◌, ◌≤◌, length, take, drop};
 ghost use Rattle.lists.specs.Select.{among};
 ghost use Rattle.outcome.specs.Outcome.{left_by};

@@ -1,5 +1,6 @@
 // The fields of a nibble stream (nibble.rs), of 16 or 13 sectors a track: the search for marks, and the scan from one pair of fields to the next.
 #![tactic(auto)]
+
 ghost use Rattle.std.specs.Prelude.{◌≡◌, ◌+◌, ◌*◌, ◌≤◌, ◌<◌, length, drop};
 ghost use Rattle.lists.specs.Fill.{tab};
 ghost use Rattle.fields.specs.Search.{skip, is_mark, Clear, recognized};

@@ -12,4 +12,4 @@ pub nonzero_div-result : goal.nonzero_div-result
 nonzero_div-result c = search counts
 
 pub returns : goal.returns
-returns c = (cc, ones_small _ _ (omega arith) (omega arith))
+returns c = record { is = cc; small = ones_small _ _ (omega arith) (omega arith) }
