@@ -8,7 +8,7 @@ use native.Mathlib.Omega.{arith}
 use lib.Pow.{pow-lt}
 use lib.ListN.{length}
 use borrow.Author.Rules.{rules}
-use borrow.Author.Tests.{eq-eqb, ne_eqb, not-true, not_false}
+use borrow.Author.Tests.{eq-eqb, ne_eqb, not-true, not-false}
 use Rattle.lists.specs.Fill.{placed}
 use Rattle.lists.proofs.Put.{placed_put}
 use Rattle.disk.specs.declared.Place.{Place}
@@ -84,4 +84,4 @@ mark_track p b e z = on_track 16 p (sym e ∙ z)
 pub mark_sector : (p : Place) (b : Bool) → b ≡ on_disk 16 p → b ≡ true → p.sector.0 < 16
 mark_sector p b e z = on_sector 16 p (sym e ∙ z)
 
-pub ruleset marks = (bit_small, mark_other, mark_off, mark_on_lem, mark_track, mark_sector, not-true, not_false, rules)
+pub ruleset marks = (bit_small, mark_other, mark_off, mark_on_lem, mark_track, mark_sector, not-true, not-false, rules)

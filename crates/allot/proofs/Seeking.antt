@@ -8,7 +8,7 @@ use native.Mathlib.Omega.{arith}
 use lib.ListN.{get_or}
 use lib.Dec.{eqb, leb}
 use borrow.Author.Rules.{rules}
-use borrow.Author.Tests.{le-leb, lt-leb, eqb-true, eqb-false, not-true, not_false}
+use borrow.Author.Tests.{le-leb, lt-leb, eqb-true, eqb-false, not-true, not-false}
 use Rattle.lists.specs.Fill.{tab, below}
 use Rattle.lists.proofs.Split.{by_test, clash, and_false}
 use Rattle.lists.proofs.Laws.{tab_ext}
@@ -91,7 +91,7 @@ top_none T later t w k i h = let z : k ≡ 0 = omega arith in record { is = rw z
 pub top_sector : (T : List ℕ) (later : Bool) (t w k : ℕ) → Topping T later t w k → 0 < k → k - 1 < 16
 top_sector T later t w k i h = omega (arith, i.count)
 
-pub ruleset tops = (top_shut, top_start, top_hit, top_miss, top_none, top_sector, not-true, not_false, rules)
+pub ruleset tops = (top_shut, top_start, top_hit, top_miss, top_none, top_sector, not-true, not-false, rules)
 
 -- ---- a leg, a track and then the others
 module _ (T : List ℕ) (later : Bool) where

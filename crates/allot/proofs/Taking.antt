@@ -9,7 +9,7 @@ use native.Mathlib.Omega.{arith}
 use lib.ListN.{length}
 use lib.Dec.{eqb}
 use borrow.Author.Rules.{rules}
-use borrow.Author.Tests.{eq-eqb, ne_eqb, le-leb, lt-leb, not-true, not_false}
+use borrow.Author.Tests.{eq-eqb, ne_eqb, le-leb, lt-leb, not-true, not-false}
 use Rattle.lists.specs.Fill.{put, placed}
 use Rattle.lists.proofs.Split.{by_lt, clash}
 use Rattle.lists.proofs.Put.{length_put, placed_put}
@@ -145,4 +145,4 @@ take_table m T₀ P₀ i T P t = t.table
 pub take_fits : (m : ℕ) (T₀ P₀ : List ℕ) (i : ℕ) (T P : List ℕ) → Taking m T₀ P₀ i T P → i < m → length P * 1 < 2 ^ 63 → 2 * i < 2 ^ 64
 take_fits m T₀ P₀ i T P t h l = omega (arith, t.room, t.space)
 
-pub ruleset taking = (take_start, take_other, take_narrow, take_more, take_miss, take_done, take_table, take_fits, not-true, not_false, rules)
+pub ruleset taking = (take_start, take_other, take_narrow, take_more, take_miss, take_done, take_table, take_fits, not-true, not-false, rules)

@@ -9,7 +9,7 @@ use native.Mathlib.Omega.{arith}
 use lib.ListN.{length, get_or, take, drop, length-append}
 use lib.Seq.{take_all, take-suc}
 use lib.Dec.{eqb}
-use borrow.Author.Tests.{lt-ltb, le-ltb, eq-eqb, ne_eqb, not-true, not_false}
+use borrow.Author.Tests.{lt-ltb, le-ltb, eq-eqb, ne_eqb, not-true, not-false}
 use borrow.Author.Rules.{rules}
 use Rattle.lists.specs.Select.{all, filter, among}
 use Rattle.lists.proofs.Among.{among_snoc}
@@ -152,7 +152,7 @@ module _ (n : ℕ) (d : List ℕ) (p : Place) where
     unfolding filter all
     plain_done h = rw (c.is, onward_end (entry_at n d p) 7 i h) refl
 
-pub ruleset plains = (plain_none, plain_bad, plain_more, plain_done, not-true, not_false, rules)
+pub ruleset plains = (plain_none, plain_bad, plain_more, plain_done, not-true, not-false, rules)
 
 -- ---- how many of a page's entries are live
 module _ (n : ℕ) (d : List ℕ) (p : Place) where
@@ -269,7 +269,7 @@ module _ (n : ℕ) (d : List ℕ) where
                 ∙ c.is);
           }
 
-pub ruleset walks = (walk_none, walk_ring, walk_off, walk_bad, walk_last, walk_more, not-true, not_false, rules)
+pub ruleset walks = (walk_none, walk_ring, walk_off, walk_bad, walk_last, walk_more, not-true, not-false, rules)
 
 -- ---- the catalog
 module _ (n : ℕ) (d : List ℕ) (k : ℕ) (e : k ≡ number (readable n d)) (v : Pages) where

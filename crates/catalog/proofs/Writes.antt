@@ -167,12 +167,12 @@ module _ (n : ℕ) (d : List ℕ) where
 
       -- the place is within the space, and what is left of it is enough
       pub list_within : w ≤ length o
-      list_within = omega (arith, room, c.place, c.puts.long, c.ranges)
+      list_within = omega (arith, room, c.place, c.puts.long, c.fits)
 
       pub list_fits : length (page_bytes n d p) ≤ length (mid_of w (length o - w) o)
       list_fits =
           let m : length (mid_of w (length o - w) o) ≡ length o - w = length-take-le (length o - w) (drop w o) (rw length-drop (omega arith)) in
-          omega (arith, room, c.place, c.puts.long, c.ranges, m)
+          omega (arith, room, c.place, c.puts.long, c.fits, m)
 
       -- the budget is never used up
       pub list_full : most ≤ k → o ≡ left_by (walk_listed n d first) o₀
@@ -181,11 +181,11 @@ module _ (n : ℕ) (d : List ℕ) where
           absurd (omega (arith, c.budget))
 
       pub list_sum : (r : ℕ) (y : List ℕ) → Fronts (page_bytes n d p) (mid_of w (length o - w) o) y r → length o₀ * 1 < 2 ^ 63 → w + r < 2 ^ 64
-      list_sum r y u h = omega (arith, room, c.place, c.ranges, u.count)
+      list_sum r y u h = omega (arith, room, c.place, c.fits, u.count)
 
       module _ (r : ℕ) (y : List ℕ) (u : Fronts (page_bytes n d p) (mid_of w (length o - w) o) y r) (l : Bool) (e : l ≡ last_page n d p) where
         more : Put 0 (c.done ++ page_bytes n d p) o₀ (put_mid w (length o - w) o y)
-        more = put_rest (page_bytes n d p) w c.puts c.place u.is (omega (arith, room, c.place, c.puts.long, c.ranges))
+        more = put_rest (page_bytes n d p) w c.puts c.place u.is (omega (arith, room, c.place, c.puts.long, c.fits))
 
         pub list_last : l ≡ true → put_mid w (length o - w) o y ≡ left_by (walk_listed n d first) o₀
         unfolding next_page
@@ -204,7 +204,7 @@ module _ (n : ℕ) (d : List ℕ) where
               done = c.done ++ page_bytes n d p;
               whole = c.whole;
               total = c.total;
-              fits = c.ranges;
+              fits = c.fits;
               is = rest_on join_pages n (sound_page n d) (next_page n d) (35 * n + 1) k c.done p c.whole c.is a (rw (← e, t, z) refl);
               place = rw length-append (omega (arith, c.place, u.count));
               puts = more;

@@ -7,7 +7,7 @@ use native.Mathlib.Omega.{arith}
 use lib.ListN.{length, get_or, take, drop}
 use lib.Seq.{take_at}
 use lib.Dec.{eqb}
-use borrow.Author.Tests.{eq-eqb, ne_eqb, le-leb, lt-leb, not-true, not_false}
+use borrow.Author.Tests.{eq-eqb, ne_eqb, le-leb, lt-leb, not-true, not-false}
 use borrow.Author.Rules.{rules}
 use Rattle.lists.specs.Same.{same}
 use Rattle.lists.specs.Fill.{padded}
@@ -148,7 +148,7 @@ module _ (n : ℕ) (d : List ℕ) (b : Bool) (k : ℕ) (w : List ℕ) (t : Total
 
 pub ruleset joinings = (join_refused, join_more, join_entries_lem, join_links, join_blocks, enter_is, rules)
 
-pub ruleset adds = (add_kept, add_dead, add_live, not-true, not_false, rules)
+pub ruleset adds = (add_kept, add_dead, add_live, not-true, not-false, rules)
 
 -- ---- one page more
 module _ (t : Totals) (c : Within t 100000) where

@@ -6,7 +6,7 @@ use mathlib.Core.List.{List, [], ◌∷◌}
 use Prim.Native.Nat.{ℕ, ◌+◌, ◌<◌}
 use native.Mathlib.Omega.{arith}
 use lib.Dec.{eqb}
-use borrow.Author.Tests.{ne_eqb, eqb-true, not-true, not_false}
+use borrow.Author.Tests.{ne_eqb, eqb-true, not-true, not-false}
 use borrow.Author.Rules.{rules}
 use Rattle.disk.specs.Disk.{per_of}
 use Rattle.lists.specs.Same.{same}
@@ -161,7 +161,7 @@ module _ (per : ℕ) (d : List ℕ) (k : ℕ) (x : List ℕ) (t : Totals) (u : t
 pub file_per : (d o o' : List ℕ) (r : Handed) (k n : ℕ) → n ≡ per_of d → Hands (file_of_number n d k) o o' r → Hands (file_of_number (per_of d) d k) o o' r
 file_per d o o' r k n e q = rw e at q
 
-pub ruleset file_calls = (file_per, file_refused, file_none, file_at, file_done, not-true, not_false, rules)
+pub ruleset file_calls = (file_per, file_refused, file_none, file_at, file_done, not-true, not-false, rules)
 
 -- ---- by name
 module _ (per : ℕ) (d : List ℕ) (k : ℕ) (x : List ℕ) (t : Totals) (u : t ≡ totaled (totals per d true k x)) (o : List ℕ) where
@@ -204,4 +204,4 @@ module _ (per : ℕ) (d : List ℕ) (k : ℕ) (x : List ℕ) (t : Totals) (u : t
 pub fetch_per : (d o o' x : List ℕ) (r : Handed) (n : ℕ) → n ≡ per_of d → Hands (fetched n d x) o o' r → Hands (fetched (per_of d) d x) o o' r
 fetch_per d o o' x r n e q = rw e at q
 
-pub ruleset fetch_calls = (fetch_per, fetch_refused, fetch_none, fetch_at, fetch_done, not-true, not_false, rules)
+pub ruleset fetch_calls = (fetch_per, fetch_refused, fetch_none, fetch_at, fetch_done, not-true, not-false, rules)

@@ -4,7 +4,7 @@ use mathlib.Core.Bool.{Bool, true, false}
 use mathlib.Core.List.{List, [], foldl}
 use Prim.Native.Nat.{ℕ, ◌+◌, ◌*◌, ◌<◌, ◌≤◌}
 use native.Mathlib.Omega.{arith}
-use borrow.Author.Tests.{not-true, not_false}
+use borrow.Author.Tests.{not-true, not-false}
 use borrow.Author.Rules.{rules}
 use Rattle.outcome.specs.declared.Refusal.TheVariants.{BadLetter}
 use Rattle.outcome.specs.Outcome.{Outcome, refused, given, ◌>>=◌, ◌>>◌, number}
@@ -88,7 +88,7 @@ module _ (n : ℕ) (d : List ℕ) (b : Bool) (j : ℕ) (x : List ℕ) (first : P
                     ∙ c.is;
               }
 
-pub ruleset goings = (none_yet_is, go_none, go_within, go_ring, go_off, go_bad, go_last, go_more, not-true, not_false, rules)
+pub ruleset goings = (none_yet_is, go_none, go_within, go_ring, go_off, go_bad, go_last, go_more, not-true, not-false, rules)
 
 -- ---- the disk
 module _ (per : ℕ) (d : List ℕ) (b : Bool) (j : ℕ) (x : List ℕ) (k : ℕ) (e : k ≡ number (readable per d)) (v : Totals) where

@@ -7,7 +7,7 @@ use Prim.Native.Nat.{ℕ, ◌+◌, ◌*◌, ◌^◌, ◌<◌, ◌≤◌}
 use native.Mathlib.Omega.{arith}
 use lib.ListN.{length, length-append}
 use lib.Dec.{eqb}
-use borrow.Author.Tests.{eqb-true, not-true, not_false}
+use borrow.Author.Tests.{eqb-true, not-true, not-false}
 use borrow.Author.Rules.{rules}
 use Rattle.lists.specs.Fill.{placed}
 use Rattle.lists.proofs.Split.{by_test, clash}
@@ -77,7 +77,7 @@ module _ (n : ℕ) (d : List ℕ) where
       room = rest_room place_bytes n (sound_list n d) (next_list n d) (35 * n + 1) k c.done p c.whole c.is
 
       pub place_sum : length o₀ * 1 < 2 ^ 63 → w + 2 < 2 ^ 64
-      place_sum h = omega (arith, room, c.place, c.ranges)
+      place_sum h = omega (arith, room, c.place, c.fits)
 
       -- the budget is never used up
       pub place_full : most ≤ k → o ≡ left_by (walk_places n d begin) o₀
@@ -88,8 +88,8 @@ module _ (n : ℕ) (d : List ℕ) where
       module _ (o' : List ℕ) (u : o' ≡ placed w (place_bytes p) o) where
         more : Put 0 (c.done ++ place_bytes p) o₀ o'
         more =
-            let q : Put w (place_bytes p) o o' = placed_put u (omega (arith, room, c.place, c.ranges, c.puts.long)) in
-            put_more c.puts q (omega (arith, c.place)) (omega (arith, room, c.place, c.ranges))
+            let q : Put w (place_bytes p) o o' = placed_put u (omega (arith, room, c.place, c.fits, c.puts.long)) in
+            put_more c.puts q (omega (arith, c.place)) (omega (arith, room, c.place, c.fits))
 
         pub place_long : length o' ≡ length o₀
         place_long = more.long
@@ -111,7 +111,7 @@ module _ (n : ℕ) (d : List ℕ) where
                 done = c.done ++ place_bytes p;
                 whole = c.whole;
                 total = c.total;
-                fits = c.ranges;
+                fits = c.fits;
                 is = rest_on join_places n (sound_list n d) (next_list n d) (35 * n + 1) k c.done p c.whole c.is a (rw (← e, t, z) refl);
                 place = rw length-append (omega (arith, c.place));
                 puts = more;
@@ -202,4 +202,4 @@ module _ (per : ℕ) (d : List ℕ) (k : ℕ) (x : List ℕ) where
 pub lists_per : (d o o' : List ℕ) (r : Handed) (k n : ℕ) → n ≡ per_of d → Hands (lists_of_number n d k) o o' r → Hands (lists_of_number (per_of d) d k) o o' r
 lists_per d o o' r k n e q = rw e at q
 
-pub ruleset list_calls = (lists_per, number_refused, number_none, number_at, number_done, not-true, not_false, rules)
+pub ruleset list_calls = (lists_per, number_refused, number_none, number_at, number_done, not-true, not-false, rules)

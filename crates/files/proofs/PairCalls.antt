@@ -7,7 +7,7 @@ use native.Mathlib.Omega.{arith}
 use lib.ListN.{length, get_or, take, drop}
 use lib.Seq.{drop-cons}
 use lib.Dec.{eqb}
-use borrow.Author.Tests.{eq-eqb, ne_eqb, eqb-true, eqb-false, not-true, not_false}
+use borrow.Author.Tests.{eq-eqb, ne_eqb, eqb-true, eqb-false, not-true, not-false}
 use borrow.Author.Rules.{rules}
 use Rattle.lists.specs.Fill.{placed}
 use Rattle.lists.proofs.Split.{by_test}
@@ -94,4 +94,4 @@ module _ (per : ℕ) (d : List ℕ) (p : Place) (o : List ℕ) where
 pub pairs_per : (d o o' : List ℕ) (r : Handed) (p : Place) (n : ℕ) → n ≡ per_of d → Hands (pair_bytes n d p) o o' r → Hands (pair_bytes (per_of d) d p) o o' r
 pairs_per d o o' r p n e q = rw e at q
 
-pub ruleset pair_calls = (pairs_per, pairs_size, pairs_off, pairs_short, pairs_done, not-true, not_false, rules)
+pub ruleset pair_calls = (pairs_per, pairs_size, pairs_off, pairs_short, pairs_done, not-true, not-false, rules)

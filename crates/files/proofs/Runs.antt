@@ -6,7 +6,7 @@ use Prim.Native.Nat.{ℕ, suc, ◌+◌, ◌*◌, ◌<◌, ◌≤◌}
 use native.Mathlib.Omega.{arith}
 use lib.ListN.{length, length-append}
 use lib.Dec.{eqb}
-use borrow.Author.Tests.{eq-eqb, ne_eqb, not-true, not_false}
+use borrow.Author.Tests.{eq-eqb, ne_eqb, not-true, not-false}
 use borrow.Author.Rules.{rules}
 use Rattle.lists.specs.Select.{all, take_while}
 use Rattle.lists.proofs.Chunks.{flat_map_append, flat_map_one}
@@ -270,4 +270,4 @@ module _ (n : ℕ) (d : List ℕ) where
                 ∙ c.is;
           }
 
-pub ruleset follows = (follow_none, follow_ring, follow_off, follow_cut, follow_last, follow_more, not-true, not_false, rules)
+pub ruleset follows = (follow_none, follow_ring, follow_off, follow_cut, follow_last, follow_more, not-true, not-false, rules)

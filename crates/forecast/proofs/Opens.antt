@@ -1,13 +1,13 @@
 -- The lines of a disk that are not in use, counted. Assumes nothing.
 use mathlib.Core.Path.{◌≡◌, refl, sym, ap, subst, ◌∙◌}
 use mathlib.Core.Bool.{Bool, true, false, cond}
-use mathlib.Core.List.{List, [], ◌∷◌, ◌++◌, map, flat_map, foldl, map_append}
+use mathlib.Core.List.{List, [], ◌∷◌, ◌++◌, map, flat_map, foldl, map-append}
 use Prim.Native.Nat.{ℕ, suc, ◌+◌, ◌*◌, ◌<◌, ◌≤◌, ◌^◌}
 use native.Mathlib.Nat.{zero-add}
 use native.Mathlib.Numerals.{add-one}
 use native.Mathlib.Omega.{arith}
 use lib.ListN.{length, get_or, length-append}
-use borrow.Author.Tests.{not-true, not_false}
+use borrow.Author.Tests.{not-true, not-false}
 use borrow.Author.Rules.{rules}
 use Rattle.lists.specs.Fill.{tab, below}
 use Rattle.lists.specs.Select.{filter}
@@ -45,7 +45,7 @@ module _ (d : List ℕ) where
   open_more : (p : Place) (i : ℕ) → open_on d p (suc i) ≡ open_on d p i + cond (idle d (line_on p i)) 1 0
   unfolding open_on
   open_more p i =
-      ap (λ (l : List ℕ). length (filter (idle d) l)) (ap (map (line_on p)) (tab_suc (λ k. k) i) ∙ map_append (line_on p) (below i) (i ∷ []))
+      ap (λ (l : List ℕ). length (filter (idle d) l)) (ap (map (line_on p)) (tab_suc (λ k. k) i) ∙ map-append (line_on p) (below i) (i ∷ []))
       ∙ open_append (map (line_on p) (below i)) (line_on p i ∷ [])
       ∙ ap (λ (n : ℕ). length (filter (idle d) (map (line_on p) (below i))) + n) (open_one (line_on p i))
 
@@ -130,4 +130,4 @@ pub ruleset line_opens = (line_used, line_idle, rules)
 
 pub ruleset page_opens = (counting_none, counting_more, counting_fits, counting_done, rules)
 
-pub ruleset totals = (totals_none, totals_over, totals_fit, totals_last, totals_more, not-true, not_false, rules)
+pub ruleset totals = (totals_none, totals_over, totals_fit, totals_last, totals_more, not-true, not-false, rules)

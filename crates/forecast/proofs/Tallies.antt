@@ -8,7 +8,7 @@ use native.Mathlib.Numerals.{add-one}
 use native.Mathlib.Omega.{arith}
 use lib.ListN.{length, get_or, take, drop, set, length-append, drop_of_length-le}
 use lib.Seq.{drop-cons, drop-append-add, length-take-le}
-use borrow.Author.Tests.{lt-leb, not-true, not_false}
+use borrow.Author.Tests.{lt-leb, not-true, not-false}
 use borrow.Author.Rules.{rules}
 use Rattle.lists.specs.Fill.{put}
 use Rattle.lists.proofs.Split.{by_lt}
@@ -50,7 +50,7 @@ module _ (s : Needs) (k : ℕ) (goes : Bool) where
     pub add_lines : s.lines + 1 < 2 ^ 64
     add_lines = let a = r.lines in omega arith
 
-pub ruleset adds = (add_not, add_some, add_sectors, add_lists, add_is, add_lines, not-true, not_false, rules)
+pub ruleset adds = (add_not, add_some, add_sectors, add_lists, add_is, add_lines, not-true, not-false, rules)
 
 pub sums_are : (a b c : ℕ) (d : List ℕ) → 3 ≤ length d → set (set (set d 0 a) 1 b) 2 c ≡ put 0 (a ∷ b ∷ c ∷ []) d
 sums_are a b c d h = put_3 0 a b c d (omega arith)

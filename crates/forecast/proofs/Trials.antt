@@ -5,7 +5,7 @@ use mathlib.Core.List.{List}
 use Prim.Native.Nat.{ℕ, ◌+◌, ◌*◌, ◌<◌, ◌≤◌, ◌^◌}
 use native.Mathlib.Omega.{arith}
 use lib.ListN.{length, replicate, length-replicate}
-use borrow.Author.Tests.{le-leb, lt-ltb, not-true, not_false}
+use borrow.Author.Tests.{le-leb, lt-ltb, not-true, not-false}
 use borrow.Author.Rules.{rules}
 use Rattle.lists.specs.Fill.{put, placed}
 use Rattle.lists.proofs.Split.{clash}
@@ -86,6 +86,6 @@ module _ (left k : ℕ) (T : List ℕ) (long : length T ≡ 256) where
     pub tried_sought : (T' : List ℕ) (r : Bool) → SoughtFor k T T' r → k < least → (left ≡ 0 → ⊥) → Tried left k T T' r
     tried_sought T' r s h z = sought_tried T' r s (tried_short h) z
 
-pub ruleset soughts = (many_fit, sought_none, sought_all, not-true, not_false, rules)
+pub ruleset soughts = (many_fit, sought_none, sought_all, not-true, not-false, rules)
 
 pub ruleset trials = (tried_long, tried_short, tried_full, tried_sought, rules)

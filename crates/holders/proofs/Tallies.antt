@@ -8,7 +8,7 @@ use native.Mathlib.Omega.{arith}
 use lib.ListN.{length, get_or, set, length-set}
 use lib.Seq.{set_out, set-get_or}
 use lib.Dec.{eqb}
-use borrow.Author.Tests.{lt-ltb, le-ltb, not-true, not_false}
+use borrow.Author.Tests.{lt-ltb, le-ltb, not-true, not-false}
 use borrow.Author.Rules.{rules}
 use Rattle.lists.specs.Select.{all}
 use Rattle.lists.proofs.Split.{by_test, and_assoc}
@@ -263,7 +263,7 @@ module _ (n : ℕ) (d : List ℕ) where
                 ∙ i.is;
           }
 
-pub ruleset listings = (listed_none, listed_long, listed_ring, listed_off, listed_cut, listed_last, listed_more, not-true, not_false, rules)
+pub ruleset listings = (listed_none, listed_long, listed_ring, listed_off, listed_cut, listed_last, listed_more, not-true, not-false, rules)
 
 -- ---- an entry
 joined : (n : ℕ) (o : Outcome (List Place)) (hs : List Place) (first c c' : List ℕ) (r : ℕ) → c ≡ bumps n first hs → Tallied n o c c' r
@@ -310,7 +310,7 @@ module _ (n : ℕ) (d : List ℕ) (x : ℕ) (c : List ℕ) (q : ℕ) where
   unfolding line_sectors
   entry_dead z a b e v y = onward c 0 z (tallied_given n (line_sectors n d x) [] (rw (← e, ← v, y) refl) c c 0 refl (sym (bumps_none n c)))
 
-pub ruleset entries = (entry_refused, entry_live, entry_dead, not-true, not_false, rules)
+pub ruleset entries = (entry_refused, entry_live, entry_dead, not-true, not-false, rules)
 
 -- ---- a page
 module _ (n : ℕ) (d : List ℕ) (p : Place) (c₁ : List ℕ) (q : ℕ) where
@@ -437,7 +437,7 @@ module _ (n : ℕ) (d : List ℕ) (first : Place) (c₀ : List ℕ) where
                 ∙ i.is;
           }
 
-pub ruleset pagings = (paging_none, paging_long, paging_ring, paging_off, paging_bad, paging_last, paging_more, not-true, not_false, rules)
+pub ruleset pagings = (paging_none, paging_long, paging_ring, paging_off, paging_bad, paging_last, paging_more, not-true, not-false, rules)
 
 -- ---- the disk
 module _ (n : ℕ) (d c₀ : List ℕ) (k : ℕ) (e : k ≡ number (readable n d)) where

@@ -1,6 +1,6 @@
 -- The claim of Req 14: each stream made of the 560 sector writings of one disk unrolls to that disk. Assumes nothing.
 use mathlib.Core.Path.{◌≡◌, refl, ap, ◌∙◌}
-use mathlib.Core.List.{List, ◌∷◌, ◌++◌, map_append}
+use mathlib.Core.List.{List, ◌∷◌, ◌++◌, map-append}
 use Prim.Native.Nat.{ℕ, ◌<◌}
 use native.Mathlib.Omega.{arith}
 use borrow.Author.Tests.{lt-leb}
@@ -36,7 +36,7 @@ again ks ls k h c =
 
 repeated : (xs ys : List Piece) (x : Piece) → x.number < 560 → Covers (order_of (xs ++ ys)) → Covers (order_of (xs ++ (x ∷ ys)))
 repeated xs ys x h c =
-    rw (map_append (λ (p : Piece). p.number) xs (x ∷ ys)) (again (order_of xs) (order_of ys) x.number h (rw (map_append (λ (p : Piece). p.number) xs ys) at c))
+    rw (map-append (λ (p : Piece). p.number) xs (x ∷ ys)) (again (order_of xs) (order_of ys) x.number h (rw (map-append (λ (p : Piece). p.number) xs ys) at c))
 
 pub duplicating : Duplicating
 duplicating =

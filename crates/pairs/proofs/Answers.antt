@@ -6,7 +6,7 @@ use Prim.Native.Nat.{ℕ, ◌*◌, ◌<◌, ◌≤◌}
 use native.Mathlib.Omega.{arith}
 use lib.Dec.{leb}
 use lib.ListN.{length, get_or, length-map, get_or-map}
-use borrow.Author.Tests.{eq-eqb, ne_eqb, lt-ltb, le-ltb, le-leb, lt-leb, not-true, not_false}
+use borrow.Author.Tests.{eq-eqb, ne_eqb, lt-ltb, le-ltb, le-leb, lt-leb, not-true, not-false}
 use borrow.Author.Rules.{rules}
 use Rattle.lists.specs.Fill.{below}
 use Rattle.lists.specs.Select.{take_while}
@@ -97,4 +97,4 @@ pub answer_per : (d : List ℕ) (p : Place) (room : ℕ) (h : Handed) (n : ℕ) 
     → h ≡ answer_of (fitting room (pair_run (per_of d) d p))
 answer_per d p room h n e q = rw e at q
 
-pub ruleset answers = (pair_per, answer_per, pair_past, pair_here, answer_size, answer_off, answer_short, answer_done, not-true, not_false, rules)
+pub ruleset answers = (pair_per, answer_per, pair_past, pair_here, answer_size, answer_off, answer_short, answer_done, not-true, not-false, rules)

@@ -6,7 +6,7 @@ use Prim.Native.Nat.{ℕ, ◌+◌, ◌*◌, ◌-◌, ◌/◌, ◌%◌, ◌≤◌
 use native.Mathlib.Omega.{arith}
 use lib.ListN.{length, get_or, take, drop}
 use lib.Dec.{eqb, leb}
-use borrow.Author.Tests.{leb-true, lt-ltb, le-ltb, not-true, not_false}
+use borrow.Author.Tests.{leb-true, lt-ltb, le-ltb, not-true, not-false}
 use borrow.Author.Rules.{rules}
 use mir.Val.{Fits}
 use mir.Syntax.{w8}
@@ -67,7 +67,7 @@ module _ (a : List ℕ) (n : ℕ) (q : n ≡ length a / 256 - 1) (t : Bool) (e :
       let x : l ≡ cond (eqb 0 n) 0 1 = k ∙ by_test (eqb 0 n) (λ i. rw i refl) (λ i. rw i refl) in
       rw (o, u, x, b, ← link_is f.0 0 n 1 (omega arith)) refl
 
-pub ruleset opens = (open_not, open_few, open_fits, open_13, open_is, not-true, not_false, rules)
+pub ruleset opens = (open_not, open_few, open_fits, open_13, open_is, not-true, not-false, rules)
 
 -- ---- one block
 pub fields_are : (s : List ℕ) (next first kind locked m count size : ℕ) → next ≡ word_at s 0 → first ≡ word_at s 2 → kind ≡ get_or s 4 0 → locked ≡ get_or s 5 0
@@ -109,4 +109,4 @@ module _ (a : List ℕ) (b : ℕ) where
   pub next_read : (s : List ℕ) (r : ℕ) → s ≡ drop (256 * b) a → r ≡ word_at s 0 → r ≡ next_data a b
   next_read s r q k = k ∙ rw q refl
 
-pub ruleset steps = (fields_are, entry_zero, entry_far, entry_near, step_some, step_none, name_read, raw_read, data_read, next_read, not-true, not_false, rules)
+pub ruleset steps = (fields_are, entry_zero, entry_far, entry_near, step_some, step_none, name_read, raw_read, data_read, next_read, not-true, not-false, rules)

@@ -4,7 +4,7 @@ use mathlib.Core.Bool.{Bool, true, false}
 use mathlib.Core.List.{List}
 use Prim.Native.Nat.{ℕ, ◌+◌, ◌*◌, ◌-◌, ◌≤◌, ◌<◌}
 use lib.ListN.{drop}
-use borrow.Author.Tests.{not-true, not_false}
+use borrow.Author.Tests.{not-true, not-false}
 use borrow.Author.Rules.{rules}
 use Rattle.outcome.specs.Outcome.{number}
 use Rattle.archive.specs.Reader.{size_in, sound_entry, sound_data, entries_from, data_from}
@@ -37,4 +37,4 @@ module _ (a s : List ℕ) (b left : ℕ) (q : s ≡ drop (256 * b) a) (h : left 
         → r ≡ number (data_from left b size (drop (256 * b) a))
     bytes_chain r z l o = o ∙ data_chain_lem b a size left h (rw (← q) (sym e ∙ z)) l
 
-pub ruleset reads = (entry_0, entries_13, entries_next, entries_chain, data_0, bytes_13, bytes_next, bytes_chain, not-true, not_false, rules)
+pub ruleset reads = (entry_0, entries_13, entries_next, entries_chain, data_0, bytes_13, bytes_next, bytes_chain, not-true, not-false, rules)

@@ -8,7 +8,7 @@ use native.Mathlib.Numerals.{add-one}
 use lib.ListN.{length, get_or, take, drop, length-append, length-drop, length-take, drop_of_length-le, replicate}
 use lib.Seq.{drop-cons, drop-drop, take-add, take_all, take-take}
 use lib.Dec.{eqb, leb, ltb}
-use borrow.Author.Tests.{eq-eqb, ne_eqb, eqb-true, le-leb, lt-leb, not-true, not_false}
+use borrow.Author.Tests.{eq-eqb, ne_eqb, eqb-true, le-leb, lt-leb, not-true, not-false}
 use borrow.Author.Rules.{rules}
 use mir.Val.{Fits}
 use mir.Syntax.{w8}
@@ -320,4 +320,4 @@ module _ (a : List ℕ) (n : ℕ) where
       let m : next ≡ cond (eqb 0 n) 0 1 = g ∙ by_test (eqb 0 n) (λ e. rw e refl) (λ e. rw e refl) in
       o ∙ rw (eq-eqb _ _ e, le-leb (1 + n) 4096 (omega arith), l, q, f, m) refl
 
-pub ruleset blocks = (allowed_is, entry_short, entry_not, entry_off, entry_misnamed, entry_is, links_are, name_are, blank_are, data_short, data_not, data_is, first_many, first_off, first_is, not-true, not_false, rules)
+pub ruleset blocks = (allowed_is, entry_short, entry_not, entry_off, entry_misnamed, entry_is, links_are, name_are, blank_are, data_short, data_not, data_is, first_many, first_off, first_is, not-true, not-false, rules)

@@ -6,7 +6,7 @@ use Prim.Native.Nat.{ℕ, ◌+◌, ◌<◌, ◌≤◌}
 use native.Mathlib.Omega.{arith}
 use lib.ListN.{length, take, drop}
 use lib.Seq.{take-take}
-use borrow.Author.Tests.{eq-eqb, ne_eqb, le-leb, lt-leb, not-true, not_false}
+use borrow.Author.Tests.{eq-eqb, ne_eqb, le-leb, lt-leb, not-true, not-false}
 use borrow.Author.Rules.{rules}
 use Rattle.lists.specs.Fill.{placed}
 use Rattle.lists.specs.Same.{same}
@@ -85,4 +85,4 @@ module _ (d : List ℕ) where
       unfolding recognized marked
       format_found y g l q r = rw (r, q) (rw (le-leb 9 (length d) h, ← e, ← w, z, le-leb 69636 (length d) l) refl)
 
-pub ruleset formats = (format_cut, format_other, format_ends, format_found, not-true, not_false, rules)
+pub ruleset formats = (format_cut, format_other, format_ends, format_found, not-true, not-false, rules)

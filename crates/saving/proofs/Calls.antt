@@ -7,7 +7,7 @@ use Prim.Native.Nat.{ℕ, ◌+◌, ◌*◌, ◌<◌, ◌≤◌, ◌^◌}
 use native.Mathlib.Omega.{arith}
 use lib.ListN.{length, get_or, replicate}
 use lib.Dec.{leb, ltb}
-use borrow.Author.Tests.{lt-leb, le-leb, lt-ltb, le-ltb, not-true, not_false}
+use borrow.Author.Tests.{lt-leb, le-leb, lt-ltb, le-ltb, not-true, not-false}
 use borrow.Author.Rules.{rules}
 use Rattle.lists.specs.Fill.{put, placed, padded}
 use Rattle.lists.specs.Select.{all, any}
@@ -139,7 +139,7 @@ module _ (d : List ℕ) (a : Asker) (name : List ℕ) where
       steps x true false q = absurd (refused_given q)
       steps x false v q = absurd (refused_given q)
 
-pub ruleset allows = (allow_refused, allow_unwritable, allow_other, allow_all, not-true, not_false, rules)
+pub ruleset allows = (allow_refused, allow_unwritable, allow_other, allow_all, not-true, not-false, rules)
 
 module _ (d : List ℕ) (a : Asker) (name : List ℕ) (n : ℕ) (e : n ≡ number (name_allowed 16 d a name)) where
   -- ---- a call that is refused so
@@ -302,7 +302,7 @@ module _ (d name : List ℕ) (s : Sight) (h : Seated d name s) (address : ℕ) (
         → Amended (stored 16 d name address bytes) d after r
     settle_stored after r b v = same_call (rw (le-leb (length bytes) 32768 k, (h.room v).0) refl) b
 
-pub ruleset settles = (settle_long, settle_full, settle_storable, settle_stored, not-true, not_false, rules)
+pub ruleset settles = (settle_long, settle_full, settle_storable, settle_stored, not-true, not-false, rules)
 
 -- ---- who asks
 pub may_all : (a : Asker) (name : List ℕ) → a.sided ≡ false → true ≡ may_name a name
@@ -397,11 +397,11 @@ module _ (d name : List ℕ) where
     one_side_deleted s limit h e =
         same_call (row_deletes (tidy 16 d) (savable name) (belongs s name) (removed 16 d name) ∙ ap (λ (b : Asker). deleted_by 16 d b name) (sym e)) h
 
-pub ruleset askers = (may_all, may_own, over_none, over_side, no_side_saved, one_side_saved, no_side_deleted, one_side_deleted, not-true, not_false, rules)
+pub ruleset askers = (may_all, may_own, over_none, over_side, no_side_saved, one_side_saved, no_side_deleted, one_side_deleted, not-true, not-false, rules)
 
-pub ruleset deletes = (delete_refused, tidy_long, tidy_paged, delete_missing, delete_there, erase_this, not-true, not_false, rules)
+pub ruleset deletes = (delete_refused, tidy_long, tidy_paged, delete_missing, delete_there, erase_this, not-true, not-false, rules)
 
-pub ruleset saves = (save_refused, tidy_long, tidy_paged, save_taken, save_over, save_settled, save_seated, not-true, not_false, rules)
+pub ruleset saves = (save_refused, tidy_long, tidy_paged, save_taken, save_over, save_settled, save_seated, not-true, not-false, rules)
 
 -- ---- a line deleted
 module _ (d : List ℕ) (x : ℕ) (h : Erasable d x) where
@@ -527,4 +527,4 @@ module _ (d : List ℕ) (x : ℕ) (name : List ℕ) (address : ℕ) (bytes : Lis
           ∙ (λ i. put x (entry_record (first_place_lem P' gs all_given.2 i) 4 false name (count i)) ((q₂ ∙ ap (written 16 (file_writes gs address bytes)) p₁.is) i)) in
           accepts d d₃ (rw all_given.1 (ap given (sym q₃)))
 
-pub ruleset stores = (store_long, store_short, store_named, store_none, store_done, not-true, not_false, rules)
+pub ruleset stores = (store_long, store_short, store_named, store_none, store_done, not-true, not-false, rules)

@@ -8,7 +8,7 @@ use lib.ListN.{length, take, drop, replicate, length-drop}
 use lib.Seq.{length-take-le}
 use Rattle.lists.specs.Fill.{put, placed}
 use lib.Dec.{eqb}
-use borrow.Author.Tests.{eq-eqb, eqb-true, not-true, not_false}
+use borrow.Author.Tests.{eq-eqb, eqb-true, not-true, not-false}
 use borrow.Author.Rules.{rules}
 use Rattle.lists.specs.Every.{Every}
 use Rattle.lists.specs.Every
@@ -217,4 +217,4 @@ module _ (d : List ℕ) where
                   ∙ rest_on step 16 (sound_list 16 d) (next_list 16 d) (35 * 16 + 1) k T p (foldl step T₀ w.lists) w.is q (rw (← e, z, f) refl);
             }
 
-pub ruleset walkings = (walking_none, walking_long, walking_over, walking_last, walking_more, not-true, not_false, rules)
+pub ruleset walkings = (walking_none, walking_long, walking_over, walking_last, walking_more, not-true, not-false, rules)

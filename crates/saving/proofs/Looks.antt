@@ -1,13 +1,13 @@
 -- The lines of a disk looked along: the last of a name, the first that is not in use. Assumes nothing.
 use mathlib.Core.Path.{◌≡◌, refl, sym, ap, subst, ◌∙◌}
 use mathlib.Core.Bool.{Bool, true, false, cond, not}
-use mathlib.Core.List.{List, [], ◌∷◌, ◌++◌, map, flat_map, foldl, append_assoc, append-nil, map_append}
+use mathlib.Core.List.{List, [], ◌∷◌, ◌++◌, map, flat_map, foldl, append_assoc, append-nil, map-append}
 use mathlib.Core.Option.{Option, none, some}
 use Prim.Native.Nat.{ℕ, zero, suc, ◌+◌, ◌*◌, ◌<◌, ◌≤◌}
 use native.Mathlib.Numerals.{add-one}
 use native.Mathlib.Omega.{arith}
 use lib.ListN.{get_or}
-use borrow.Author.Tests.{not-true, not_false}
+use borrow.Author.Tests.{not-true, not-false}
 use borrow.Author.Rules.{rules}
 use Rattle.lists.specs.Fill.{tab, below}
 use Rattle.lists.specs.Same.{same}
@@ -127,7 +127,7 @@ module _ (d name : List ℕ) where
       ap (λ (s : Sight). see_line d name s (line_on p i)) (lines_are p i xs) ∙ sym (see_more (xs ++ map (line_on p) (below i)) (line_on p i))
       ∙ ap (sight_of d name)
       (append_assoc xs (map (line_on p) (below i)) (line_on p i ∷ [])
-      ∙ ap (λ (l : List ℕ). xs ++ l) (sym (ap (map (line_on p)) (tab_suc (λ k. k) i) ∙ map_append (line_on p) (below i) (i ∷ []))))
+      ∙ ap (λ (l : List ℕ). xs ++ l) (sym (ap (map (line_on p)) (tab_suc (λ k. k) i) ∙ map-append (line_on p) (below i) (i ∷ []))))
 
   pages_are : (xs : List ℕ) (ps : List Place) → foldl (see_page d name) (sight_of d name xs) ps ≡ sight_of d name (xs ++ flat_map lines_on ps)
   unfolding flat_map see_page
@@ -174,8 +174,8 @@ module _ (d name : List ℕ) where
                 (pass_more (see_page d name) d w.from most k s p w.pass (sym e ∙ z) q f h);
           }
 
-pub ruleset seeing = (line_idle, line_open, line_named, line_other, not-true, not_false, rules)
+pub ruleset seeing = (line_idle, line_open, line_named, line_other, not-true, not-false, rules)
 
 pub ruleset linings = (lining_none, lining_more, lining_done, rules)
 
-pub ruleset lookings = (looking_none, looking_over, looking_last, looking_more, not-true, not_false, rules)
+pub ruleset lookings = (looking_none, looking_over, looking_last, looking_more, not-true, not-false, rules)

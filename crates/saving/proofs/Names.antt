@@ -8,7 +8,7 @@ use native.Mathlib.Omega.{arith}
 use lib.ListN.{length, get_or, take, drop, drop_of_length-le}
 use lib.Seq.{take-suc, take_all, drop-cons, length-take-le}
 use lib.Dec.{eqb}
-use borrow.Author.Tests.{eq-eqb, ne_eqb, not-true, not_false}
+use borrow.Author.Tests.{eq-eqb, ne_eqb, not-true, not-false}
 use borrow.Author.Rules.{rules}
 use Rattle.lists.specs.Same.{same}
 use Rattle.lists.specs.Select.{among}
@@ -94,4 +94,4 @@ module _ (s : List ℕ) (w b : Bool) (c : ℕ) (e : w ≡ writable s) (f : b ≡
   unfolding savable
   without q = rw (← e, z, ← f, y, kept s (has_last s w e z) (λ x. q (g ∙ x))) refl
 
-pub ruleset savables = (not_writable, has_last, with_zero, with_space, without, not-true, not_false, rules)
+pub ruleset savables = (not_writable, has_last, with_zero, with_space, without, not-true, not-false, rules)

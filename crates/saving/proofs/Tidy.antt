@@ -4,7 +4,7 @@ use mathlib.Core.Bool.{true, false}
 use mathlib.Core.List.{List}
 use Prim.Native.Nat.{ℕ}
 use lib.ListN.{length}
-use borrow.Author.Tests.{ne_eqb, not-true, not_false}
+use borrow.Author.Tests.{ne_eqb, not-true, not-false}
 use borrow.Author.Rules.{rules}
 use Rattle.outcome.specs.declared.Refusal.TheVariants.{NotClean}
 use Rattle.outcome.specs.Outcome.{Outcome, refused, given, ◌>>=◌, ◌>>◌, require, number}
@@ -83,4 +83,4 @@ module _ (d : List ℕ) (h : HolderCounts) (e : h ≡ reported (holding (per_of 
   pub tidy_clean : h.refusal ≡ 0 → h.clean ≡ true → 0 ≡ number (tidy 16 d)
   tidy_clean = tidied_clean 16 d h as_16
 
-pub ruleset tidies = (tidy_size, tidy_refused, tidy_unclean, tidy_clean, not-true, not_false, rules)
+pub ruleset tidies = (tidy_size, tidy_refused, tidy_unclean, tidy_clean, not-true, not-false, rules)

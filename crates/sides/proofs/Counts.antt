@@ -1,7 +1,7 @@
 -- The sectors of a side, counted line by line and page by page. Assumes nothing.
 use mathlib.Core.Path.{◌≡◌, refl, sym, ap, subst, ◌∙◌}
 use mathlib.Core.Bool.{Bool, true, false, cond, not, ◌&&◌}
-use mathlib.Core.List.{List, [], ◌∷◌, ◌++◌, map, flat_map, map_append}
+use mathlib.Core.List.{List, [], ◌∷◌, ◌++◌, map, flat_map, map-append}
 use mathlib.Core.Option.{Option, none, some}
 use Prim.Native.Nat.{ℕ, zero, suc, ◌+◌, ◌*◌, ◌-◌, ◌<◌, ◌≤◌, ◌^◌}
 use native.Mathlib.Nat.{zero-add}
@@ -10,7 +10,7 @@ use native.Mathlib.Omega.{arith}
 use lib.ListN.{length, get_or, take, drop, length-append}
 use lib.Dec.{eqb}
 use lib.Seq.{get_or-take, get_or-drop}
-use borrow.Author.Tests.{eqb-true, not-true, not_false}
+use borrow.Author.Tests.{eqb-true, not-true, not-false}
 use borrow.Author.Rules.{rules}
 use Rattle.lists.specs.Fill.{tab, below}
 use Rattle.lists.specs.Select.{all}
@@ -245,7 +245,7 @@ module _ (n : ℕ) (d : List ℕ) (s : Side) where
   unfolding lines_count tab each flat_map
   page_many p zero ts h = let e : [] ≡ ts = given_same refl h in ap (λ (l : List (List Place)). length (flat_map (λ t. t) l)) e
   page_many p (suc i) ts h =
-      let q : map (line_on p) (below (suc i)) ≡ map (line_on p) (below i) ++ (line_on p i ∷ []) = ap (map (line_on p)) (tab_suc (λ k. k) i) ∙ map_append (line_on p) (below i) (i ∷ []) in
+      let q : map (line_on p) (below (suc i)) ≡ map (line_on p) (below i) ++ (line_on p i ∷ []) = ap (map (line_on p)) (tab_suc (λ k. k) i) ∙ map-append (line_on p) (below i) (i ∷ []) in
       let g = two_runs (map (line_on p) (below i)) (line_on p i ∷ []) ts (ap (each (own_at n d s)) (sym q) ∙ h) in
       let c = each_cons (own_at n d s) (line_on p i) [] g.1 g.3 in
       let a = page_many p i g.0 g.2 in
@@ -310,8 +310,8 @@ module _ (n : ℕ) (d : List ℕ) (s : Side) where
 
 pub ruleset letters = (letter_survey, letter_ours, name_is, rules)
 
-pub ruleset lines = (side_idle, side_live, line_other, line_own, not-true, not_false, rules)
+pub ruleset lines = (side_idle, side_live, line_other, line_own, not-true, not-false, rules)
 
 pub ruleset linings = (lining_none, lining_more, lining_fits, lining_done, lining_small, rules)
 
-pub ruleset pagings = (paging_none, paging_over, paging_small, paging_fits, paging_few, paging_last, paging_more, not-true, not_false, rules)
+pub ruleset pagings = (paging_none, paging_over, paging_small, paging_fits, paging_few, paging_last, paging_more, not-true, not-false, rules)

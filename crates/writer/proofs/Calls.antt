@@ -6,7 +6,7 @@ use Prim.Native.Nat.{ℕ, ◌+◌, ◌*◌, ◌<◌, ◌≤◌}
 use native.Mathlib.Omega.{arith}
 use lib.ListN.{length}
 use lib.Dec.{eqb, leb}
-use borrow.Author.Tests.{eq-eqb, ne_eqb, le-leb, lt-leb, not-true, not_false}
+use borrow.Author.Tests.{eq-eqb, ne_eqb, le-leb, lt-leb, not-true, not-false}
 use borrow.Author.Rules.{rules}
 use Rattle.lists.specs.Same.{same}
 use Rattle.lists.proofs.Put.{put_front}
@@ -205,4 +205,4 @@ module _ (per : ℕ) (d : List ℕ) (s : DiskSurvey) (e : s ≡ surveyed (survey
         pub check_differs : m.good ≡ false → 13 ≡ number (check per d a)
         check_differs q = sym (check_same h.c a false made (sym equal ∙ q))
 
-pub ruleset calls = (write_refused, write_overlong, check_refused, check_overlong, call_walked, write_short, write_done, check_length, check_passed, check_differs, not-true, not_false, rules)
+pub ruleset calls = (write_refused, write_overlong, check_refused, check_overlong, call_walked, write_short, write_done, check_length, check_passed, check_differs, not-true, not-false, rules)

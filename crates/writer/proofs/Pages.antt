@@ -6,7 +6,7 @@ use mathlib.Core.Option.{Option, none, some}
 use Prim.Native.Nat.{ℕ, ◌+◌, ◌*◌, ◌<◌, ◌≤◌}
 use native.Mathlib.Omega.{arith}
 use lib.ListN.{length, get_or}
-use borrow.Author.Tests.{not-true, not_false}
+use borrow.Author.Tests.{not-true, not-false}
 use borrow.Author.Rules.{rules}
 use Rattle.lists.specs.Select.{filter}
 use Rattle.lists.proofs.Split.{by_test}
@@ -219,7 +219,7 @@ module _ (w : Bool) (a : List ℕ) (n : ℕ) (d : List ℕ) (total : ℕ) where
               bound = omega (arith, c.bound, u.bound);
             }
 
-pub ruleset livings = (entry_dead, entry_has, entry_live, not-true, not_false, rules)
+pub ruleset livings = (entry_dead, entry_has, entry_live, not-true, not-false, rules)
 
 pub ruleset pagings = (paging_none, paging_due, paging_block, paging_long, paging_more, paging_done, rules)
 
