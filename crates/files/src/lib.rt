@@ -1,5 +1,6 @@
 // The files of a disk: track/sector lists, pairs, file bytes (catalog.rs).
 #![tactic(auto)]
+
 ghost use Rattle.std.specs.Prelude.{◌≡◌, ℕ, ◌+◌, ◌-◌, ◌*◌, ◌<◌, ◌≤◌, cond, eqb, take};
 ghost use Rattle.outcome.specs.Outcome.{Hands, left_by};
 ghost use Rattle.catalog.specs.Listing.{Ready};

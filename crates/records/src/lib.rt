@@ -1,5 +1,6 @@
 // Writers of records, and the recogniser of a DOS 3.3 disk (serialize.rs, the `as_vec` of catalog.rs, format_from_data of disk.rs).
 #![tactic(auto)]
+
 ghost use Rattle.std.specs.Prelude.{◌≡◌, true, false, ◌<◌, ◌≤◌, length};
 ghost use Rattle.lists.specs.Fill.{cats, put};
 ghost use Rattle.lists.specs.Words.{le2};

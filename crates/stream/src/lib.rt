@@ -1,5 +1,6 @@
 // A nibble stream (nibble.rs): a sector by its key, and the flat disk that it holds.
 #![tactic(auto)]
+
 ghost use Rattle.std.specs.Prelude.{◌≡◌, ◌+◌, ◌*◌, ◌≤◌, ◌<◌, length, take, drop};
 ghost use Rattle.lists.specs.Fill.{tab, put};
 ghost use Rattle.outcome.specs.Outcome.{number, Hands};
