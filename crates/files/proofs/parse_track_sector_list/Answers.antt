@@ -10,7 +10,7 @@ pub parse_track_sector_pair-q-requires : goal.parse_track_sector_pair-q-requires
 parse_track_sector_pair-q-requires c = search pairings
 
 pub returns-then-q-eq0 : goal.returns-then-q-eq0
-returns-then-q-eq0 c = (pairing_stop _ _ _ _ _ c.before.before.before.before.loop.invariant (omega (arith, c.before.before.before.loop-test.true)) _ c.before.before.parse-track-sector-pair.ensures c.if1.true, c.before.before.before.before.loop.invariant.count)
+returns-then-q-eq0 c = record { is = pairing_stop _ _ _ _ _ c.loop-i.invariant (omega (arith, c.loop-i-test.true)) _ c.parse_track_sector_pair-q.ensures c.if-q-eq0.true; few = c.loop-i.invariant.count }
 
 pub on_disk-good-requires : goal.on_disk-good-requires
 on_disk-good-requires c = search pairings
@@ -22,7 +22,7 @@ pub loop-i-smaller : goal.loop-i-smaller
 loop-i-smaller c = search pairings
 
 pub loop-i-preserved : goal.loop-i-preserved
-loop-i-preserved c = pairing_more _ _ _ _ _ c.before.before.before.before.before.loop.invariant (omega (arith, c.before.before.before.before.loop-test.true)) _ c.before.before.before.parse-track-sector-pair.ensures c.before.if1.false _ c.on-disk.ensures
+loop-i-preserved c = pairing_more _ _ _ _ _ c.loop-i.invariant (omega (arith, c.loop-i-test.true)) _ c.parse_track_sector_pair-q.ensures c.if-q-eq0.false _ c.on_disk-good.ensures
 
 pub returns : goal.returns
-returns c = (pairing_full _ _ _ _ _ c.before.loop.invariant (omega (arith, c.loop-test.false)), c.before.loop.invariant.count)
+returns c = record { is = pairing_full _ _ _ _ _ c.loop-i.invariant (omega (arith, c.loop-i-test.false)), c.loop-i.invariant.count)

@@ -7,4 +7,4 @@ pub overflow_mul-result : goal.overflow_mul-result
 overflow_mul-result c = let h = bytes_times c.args.a c.args.b (omega arith) (omega arith) in omega arith
 
 pub returns : goal.returns
-returns c = let h = bytes_times c.args.a c.args.b (omega arith) (omega arith) in (refl, omega arith)
+returns c = let h = bytes_times c.args.a c.args.b (omega arith) (omega arith) in record { is = refl; small = omega arith }
