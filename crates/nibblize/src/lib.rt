@@ -1,5 +1,6 @@
 // A flat disk written as a nibble stream of 16 sectors a track (not in the Rust).
 #![tactic(auto)]
+
 ghost use Rattle.std.specs.Prelude.{◌≡◌, ◌++◌, ◌+◌, ◌*◌, ◌≤◌, ◌<◌, length, replicate};
 ghost use Rattle.lists.specs.Fill.{tab, put, placed, cats};
 ghost use Rattle.outcome.specs.Outcome.{Hands};

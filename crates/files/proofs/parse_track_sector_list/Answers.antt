@@ -25,4 +25,4 @@ pub loop-i-preserved : goal.loop-i-preserved
 loop-i-preserved c = pairing_more _ _ _ _ _ c.loop-i.invariant (omega (arith, c.loop-i-test.true)) _ c.parse_track_sector_pair-q.ensures c.if-q-eq0.false _ c.on_disk-good.ensures
 
 pub returns : goal.returns
-returns c = record { is = pairing_full _ _ _ _ _ c.loop-i.invariant (omega (arith, c.loop-i-test.false)), c.loop-i.invariant.count)
+returns c = record { is = pairing_full _ _ _ _ _ c.loop-i.invariant (omega (arith, c.loop-i-test.false)); few = c.loop-i.invariant.count }
