@@ -1,5 +1,6 @@
 // Archives: the contents of a disk in chained blocks (document 01's return, which the Rust has not).
 #![tactic(auto)]
+
 ghost use Rattle.std.specs.Prelude.{◌≡◌};
 ghost use Rattle.archive.specs.Archive.{first_block};
 ghost use Rattle.archive.specs.Blocks.{entry_bytes};

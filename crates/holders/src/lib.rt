@@ -1,5 +1,6 @@
 // The holders of a disk's sectors: Req 06. Not of the Rust.
 #![tactic(auto)]
+
 ghost use Rattle.std.specs.Prelude.{◌≡◌, cond, ◌&&◌, ◌*◌, ◌-◌, ◌<◌, ◌≤◌, length, eqb, ltb};
 ghost use Rattle.lists.specs.Select.{passing};
 ghost use Rattle.disk.specs.Disk.{per_of};

@@ -2,6 +2,7 @@
 // TrackSectorPair and TrackSectorList of catalog.rs.) The borrow checker does not cover a slice of structs, so `pair_run` is proved by hand: it calls the
 // functions above it, and stores. `run_of_four`, which lends a run of its own, is proved by hand too; whoever calls it needs no such proof.
 #![tactic(auto)]
+
 ghost use Rattle.std.specs.Prelude.{◌≡◌};
 ghost use Rattle.outcome.specs.Outcome.{answer_of, Hands};
 ghost use Rattle.disk.specs.Disk.{per_of, place};
