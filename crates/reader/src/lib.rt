@@ -1,5 +1,6 @@
 // Archives read back, with no disk: document 01, the reader under "Return". (The Rust has none.)
 #![tactic(auto)]
+
 ghost use Rattle.std.specs.Prelude.{◌≡◌, ◌+◌, ◌*◌, ◌-◌, ◌/◌, ◌%◌, ◌<◌, ◌≤◌, cond, [], take, drop, eqb};
 ghost use Rattle.lists.specs.Select.{all};
 ghost use Rattle.lists.specs.Same.{same};

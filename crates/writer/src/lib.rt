@@ -1,5 +1,6 @@
 // The archive of a disk, written into lent space or compared with the bytes of one: document 01, "Return". Not of the Rust, which has none.
 #![tactic(auto)]
+
 ghost use Rattle.std.specs.Prelude.{◌≡◌, cond, ℕ, ◌+◌, ◌-◌, ◌*◌, ◌%◌, ◌<◌, ◌≤◌, min, eqb, length, get_or, take, drop};
 ghost use mathlib.Core.List.{List, ◌++◌, ◌∷◌, [], map, foldl};
 ghost use Rattle.lists.specs.Fill.{placed, below};

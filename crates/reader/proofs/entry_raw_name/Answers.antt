@@ -1,0 +1,11 @@
+use Rattle.reader.proofs.Opening.{steps}
+use Rattle.reader.proofs.entry_raw_name.Goals as goal
+
+pub from_block-requires : goal.from_block-requires
+from_block-requires c = search steps
+
+pub part-requires : goal.part-requires
+part-requires c = search steps
+
+pub returns : goal.returns
+returns c = search steps

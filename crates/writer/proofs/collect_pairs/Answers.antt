@@ -1,0 +1,35 @@
+use Rattle.files.proofs.Copying.{pairs_stop, pairs_more, pairs_full}
+use Prim.Native.Nat.{◌-◌}
+use native.Mathlib.Omega.{arith}
+use Rattle.writer.proofs.Collects.{collects}
+use Rattle.writer.proofs.collect_pairs.Goals as goal
+
+pub loop-i-init : goal.loop-i-init
+loop-i-init c = search collects
+
+pub parse_track_sector_pair-q-requires : goal.parse_track_sector_pair-q-requires
+parse_track_sector_pair-q-requires c = search collects
+
+pub shape_of-places-then-q-eq0 : goal.shape_of-places-then-q-eq0
+shape_of-places-then-q-eq0 c = search collects
+
+pub returns-then-q-eq0 : goal.returns-then-q-eq0
+returns-then-q-eq0 c = pairs_stop _ _ _ _ _ _ _ _ _ _ c.before.before.before.before.loop.invariant (omega (arith, c.before.before.before.loop-test.true)) _ c.before.before.parse-track-sector-pair.ensures c.if1.true
+
+pub put_start-at-requires : goal.put_start-at-requires
+put_start-at-requires c = search collects
+
+pub overflow_add-i : goal.overflow_add-i
+overflow_add-i c = search collects
+
+pub loop-i-smaller : goal.loop-i-smaller
+loop-i-smaller c = search collects
+
+pub loop-i-preserved : goal.loop-i-preserved
+loop-i-preserved c = pairs_more _ _ _ _ _ _ _ _ _ _ c.before.before.before.before.before.before.before.before.loop.invariant (omega (arith, c.before.before.before.before.before.before.before.loop-test.true)) _ c.before.before.before.before.before.before.parse-track-sector-pair.ensures c.before.before.before.before.if1.false _ _ c.before.before.put-start.ensures
+
+pub shape_of-places : goal.shape_of-places
+shape_of-places c = search collects
+
+pub returns : goal.returns
+returns c = pairs_full _ _ _ _ _ _ _ _ _ _ c.before.loop.invariant (omega (arith, c.loop-test.false))
