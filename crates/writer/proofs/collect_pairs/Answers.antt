@@ -14,7 +14,7 @@ pub shape_of-places-then-q-eq0 : goal.shape_of-places-then-q-eq0
 shape_of-places-then-q-eq0 c = search collects
 
 pub returns-then-q-eq0 : goal.returns-then-q-eq0
-returns-then-q-eq0 c = pairs_stop _ _ _ _ _ _ _ _ _ _ c.before.before.before.before.loop.invariant (omega (arith, c.before.before.before.loop-test.true)) _ c.before.before.parse-track-sector-pair.ensures c.if1.true
+returns-then-q-eq0 c = pairs_stop _ _ _ _ _ _ _ _ _ _ c.loop-i.invariant (omega (arith, c.loop-i-test.true)) _ c.parse_track_sector_pair-q.ensures c.if-q-eq0.true
 
 pub put_start-at-requires : goal.put_start-at-requires
 put_start-at-requires c = search collects
@@ -26,10 +26,10 @@ pub loop-i-smaller : goal.loop-i-smaller
 loop-i-smaller c = search collects
 
 pub loop-i-preserved : goal.loop-i-preserved
-loop-i-preserved c = pairs_more _ _ _ _ _ _ _ _ _ _ c.before.before.before.before.before.before.before.before.loop.invariant (omega (arith, c.before.before.before.before.before.before.before.loop-test.true)) _ c.before.before.before.before.before.before.parse-track-sector-pair.ensures c.before.before.before.before.if1.false _ _ c.before.before.put-start.ensures
+loop-i-preserved c = pairs_more _ _ _ _ _ _ _ _ _ _ c.loop-i.invariant (omega (arith, c.loop-i-test.true)) _ c.parse_track_sector_pair-q.ensures c.if-q-eq0.false _ _ c.put_start-at.ensures
 
 pub shape_of-places : goal.shape_of-places
 shape_of-places c = search collects
 
 pub returns : goal.returns
-returns c = pairs_full _ _ _ _ _ _ _ _ _ _ c.before.loop.invariant (omega (arith, c.loop-test.false))
+returns c = pairs_full _ _ _ _ _ _ _ _ _ _ c.loop-i.invariant (omega (arith, c.loop-i-test.false))
