@@ -1,11 +1,11 @@
 -- One pair of a list, and what is answered for a run: one law for each return. Assumes nothing.
-use mathlib.Core.Path.{◌≡◌, refl, sym, ap, ◌∙◌}
+use mathlib.Core.Path.{◌≡◌, refl, sym, ap, subst, ◌∙◌}
 use mathlib.Core.Bool.{Bool, true, false}
 use mathlib.Core.List.{List, map}
-use Prim.Native.Nat.{ℕ, ◌*◌, ◌<◌, ◌≤◌}
+use Prim.Native.Nat.{ℕ, ◌+◌, ◌*◌, ◌<◌, ◌≤◌}
 use native.Mathlib.Omega.{arith}
 use lib.Dec.{leb}
-use lib.ListN.{length, get_or, length-map, get_or-map}
+use lib.ListN.{length, get_or, set, length-map, get_or-map}
 use borrow.Author.Tests.{eq-eqb, ne_eqb, lt-ltb, le-ltb, le-leb, lt-leb, not-true, not-false}
 use borrow.Author.Rules.{rules}
 use Rattle.lists.specs.Fill.{below}
@@ -14,7 +14,7 @@ use Rattle.lists.proofs.Laws.{get_or_tab}
 use Rattle.lists.proofs.Select.{take_while_short, take_while_get_d, length_onward}
 use Rattle.outcome.specs.declared.Handed.{Handed}
 use Rattle.outcome.specs.declared.Refusal.TheVariants.{OffSize, OffDisc, TrayShort}
-use Rattle.outcome.specs.Outcome.{Outcome, refused, given, ◌>>=◌, ◌>>◌, require, refused_with, accepted_with, answer_of}
+use Rattle.outcome.specs.Outcome.{Outcome, refused, given, ◌>>=◌, ◌>>◌, require, refused_with, accepted_with, answer_of, Hands}
 use Rattle.outcome.proofs.Outcome.{then_gives}
 use Rattle.disk.specs.declared.Place.{Place}
 use Rattle.disk.specs.Disk.{per_of, sectors, on_disk, sized}
@@ -23,7 +23,7 @@ use Rattle.files.specs.Contents.{max_pairs, is_pair, pair_at, pairs_of, pairs_at
 use Rattle.files.specs.Threads.{run_of}
 use Rattle.pairs.specs.declared.TrackSectorPair.{TrackSectorPair}
 use Rattle.pairs.specs.Run.{as_pair, no_pair, pair_in, pair_run, fitting}
-use Rattle.pairs.proofs.Storing.{hands_over}
+use Rattle.pairs.proofs.Storing.{hands_over, stored, stored_more, stored_all, count_is, count_fits}
 
 module _ (per : ℕ) (d : List ℕ) (p : Place) where
   -- ---- a pair
@@ -96,5 +96,23 @@ pair_per d p i r n e q = rw e at q
 pub answer_per : (d : List ℕ) (p : Place) (room : ℕ) (h : Handed) (n : ℕ) → n ≡ per_of d → h ≡ answer_of (fitting room (pair_run n d p))
     → h ≡ answer_of (fitting room (pair_run (per_of d) d p))
 answer_per d p room h n e q = rw e at q
+
+-- ---- the loop that stores them, for a run that stood as ys
+module _ (d : List ℕ) (p : Place) (ys : List TrackSectorPair) where
+  module _ (i : ℕ) (run : List TrackSectorPair) (h : Handed) (e : h ≡ answer_of (fitting (length ys) (pair_run (per_of d) d p)))
+      (q : run ≡ stored i (hands_over (fitting (length ys) (pair_run (per_of d) d p))) ys) where
+    -- one pair more
+    pub stored_pair : (r : TrackSectorPair) → i < h.length → r ≡ pair_in (per_of d) d p i → set run i r ≡ stored (i + 1) (hands_over (fitting (length ys) (pair_run (per_of d) d p))) ys
+    stored_pair r l u =
+        let o : Outcome (List TrackSectorPair) = fitting (length ys) (pair_run (per_of d) d p) in
+        let m : i < (answer_of o).length = subst (λ (x : Handed). i < x.length) e l in
+        rw q
+        (stored_more i (hands_over o) ys (count_fits (length ys) (pair_run (per_of d) d p)) (as_pair (pair_at (per_of d) d p 0)) r (omega (arith, m, count_is o)) (u ∙ pair_is (per_of d) d p i (length ys) m))
+
+    -- all of them
+    pub stored_run : h.length ≤ i → i ≤ h.length → Hands (pair_run (per_of d) d p) ys run h
+    stored_run l m =
+        let o : Outcome (List TrackSectorPair) = fitting (length ys) (pair_run (per_of d) d p) in
+        record { answer = e; left = q ∙ stored_all i o ys (subst (λ (x : Handed). x.length ≤ i) e l) (subst (λ (x : Handed). i ≤ x.length) e m) }
 
 pub ruleset answers = (pair_per, answer_per, pair_past, pair_here, answer_size, answer_off, answer_short, answer_done, not-true, not-false, rules)

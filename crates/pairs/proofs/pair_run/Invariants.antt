@@ -8,7 +8,7 @@ use Rattle.pairs.proofs.pair_run.Given as goal
 abbrev pub invariant-loop-i : goal.invariant-loop-i
 invariant-loop-i l = record {
   within : l.i ≤ l.n;
-  is : l.run ≡ stored l.i (hands_over (fitting (length l.initial.run) (pair_run (per_of l.disk) l.disk (place l.track l.sector)))) l.initial.run
+  is : l.run ≡ stored l.i (hands_over (fitting (length l.initial.run) (pair_run (per_of l.disk) l.disk (place l.track l.sector)))) l.initial.run;
 }
 
 abbrev pub decreases-loop-i : goal.decreases-loop-i
