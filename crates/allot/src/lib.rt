@@ -1,5 +1,6 @@
 // Sectors sought, taken and given back in a copy of the VTOC: Req 09. Not of the Rust.
 #![tactic(auto)]
+
 ghost use Rattle.std.specs.Prelude.{◌≡◌, cond, not, ◌&&◌, ◌<◌, ◌%◌, eqb, length};
 ghost use Rattle.holders.specs.Holders.{bit};
 ghost use Rattle.amend.specs.Search.{with_bit, track_of};

@@ -1,5 +1,6 @@
 // The two sides that save to one disk: Req 10. Not of the Rust.
 #![tactic(auto)]
+
 ghost use Rattle.std.specs.Prelude.{◌≡◌, ◌<◌, ◌≤◌};
 ghost use Rattle.catalog.specs.Catalog.{entry_from};
 ghost use Rattle.sides.specs.Sides.{belongs, of_side};
