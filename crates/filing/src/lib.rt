@@ -1,5 +1,6 @@
 // The sectors of a saved file, lists and data, written to a flat disk: Req 09. Not of the Rust.
 #![tactic(auto)]
+
 ghost use Rattle.std.specs.Prelude.{◌≡◌, ◌<◌, ◌≤◌, length};
 ghost use Rattle.filing.specs.Filing.{place_in, Filed};
 ghost use Rattle.filing.specs.Steps.{ListMade, DataMade, DataPut, ListsWritten, DataWritten};
