@@ -2,6 +2,7 @@
 // it"). The borrow checker does not cover a struct that holds a slice, so the functions on `Reader` are proved by hand: they call `look_at`, and store.
 // (The Rust has none.)
 #![tactic(auto)]
+
 ghost use Rattle.std.specs.Prelude.{◌≡◌};
 ghost use Rattle.archive.specs.Reader.{opened};
 ghost use Rattle.reader.specs.Steps.{opened_with, entry_step};

@@ -1,5 +1,6 @@
 // Saving and deleting on a flat disk: Req 09, and by two sides with a limit each: Req 10. Not of the Rust.
 #![tactic(auto)]
+
 ghost use Rattle.std.specs.Prelude.{◌≡◌, true, false, ◌+◌, ◌≤◌, length};
 ghost use Rattle.outcome.specs.Outcome.{number};
 ghost use Rattle.lists.specs.Select.{among};
