@@ -1,5 +1,6 @@
 // Will it go on? What saves of given lengths will need of a disk, told without writing: Req 11. Not of the Rust.
 #![tactic(auto)]
+
 ghost use Rattle.std.specs.Prelude.{◌≡◌, cond, ◌≤◌, min, length, ◌∷◌, []};
 ghost use Rattle.lists.specs.Fill.{put};
 ghost use Rattle.outcome.specs.Outcome.{Hands};

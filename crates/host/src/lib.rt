@@ -1,5 +1,6 @@
 // The functions exported to a host: docs/HOST-API.md. Each calls the library function of the same job, and tells its answer.
 #![tactic(auto)]
+
 ghost use Rattle.std.specs.Prelude.{◌≡◌, cond, ◌≤◌, length, drop, ltb, ◌++◌, ◌∷◌, []};
 ghost use Rattle.outcome.specs.Outcome.{number};
 ghost use Rattle.disk.specs.Disk.{per_of, place, byte_of};
