@@ -32,6 +32,7 @@ use Rattle.files.specs.Survey.{survey, surveyed}
 use Rattle.holders.specs.declared.HolderCounts.{HolderCounts}
 use Rattle.holders.specs.Holders.{holding, reported}
 use Rattle.archive.specs.Reader.{opened}
+use Rattle.files.specs.Survey.{data_blocks}
 use Rattle.reader.specs.declared.Opened.{Opened}
 use Rattle.reader.specs.declared.Entry.{Entry}
 use Rattle.reader.specs.Steps.{opened_with, entry_of, fields_of, entry_with, is_entry, entry_step}
@@ -161,7 +162,7 @@ module _ (a : List ℕ) (d : List ℕ) where
   entry_zero : (i : ℕ) (fs : List File) (b : ℕ) → (entry_of i fs b).refusal ≡ 0
   unfolding entry_of fields_of
   entry_zero i [] b = refl
-  entry_zero i (f ∷ fs) b = by_test (eqb i b) (λ e. rw e refl) (λ e. rw e (entry_zero _ fs b))
+  entry_zero i (f ∷ fs) b = by_test (eqb i b) (λ e. rw e refl) (λ e. rw e (entry_zero (i + 1 + data_blocks f) fs b))
 
   pub entry_refused : (b : ℕ) (s : Entry) → s ≡ entry_with (opened a) b → (s.refusal ≡ 0 → ⊥) → Fields (entry_numbers a b) d d s.refusal
   unfolding entry_numbers

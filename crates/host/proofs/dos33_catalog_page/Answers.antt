@@ -1,0 +1,14 @@
+use Rattle.host.proofs.Told.{exporting}
+use Rattle.host.proofs.dos33_catalog_page.Goals as goal
+
+pub catalog_as_vec-answer-requires : goal.catalog_as_vec-answer-requires
+catalog_as_vec-answer-requires c = search exporting
+
+pub tell-requires : goal.tell-requires
+tell-requires c = search exporting
+
+pub shape_of-out : goal.shape_of-out
+shape_of-out c = search exporting
+
+pub returns : goal.returns
+returns c = search exporting

@@ -1,0 +1,14 @@
+use Rattle.host.proofs.Told.{exporting}
+use Rattle.host.proofs.dos33_nibblize.Goals as goal
+
+pub nibblize-answer-requires : goal.nibblize-answer-requires
+nibblize-answer-requires c = search exporting
+
+pub tell-requires : goal.tell-requires
+tell-requires c = search exporting
+
+pub shape_of-out : goal.shape_of-out
+shape_of-out c = search exporting
+
+pub returns : goal.returns
+returns c = search exporting
