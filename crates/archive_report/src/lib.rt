@@ -1,5 +1,7 @@
 // What is said of an archive: its entries, without a disk, and where it differs from the archive of a disk.
-use libc::{STDERR_FILENO, STDOUT_FILENO};
+#![tactic(auto)]
+
+use screen::{STDERR_FILENO, STDOUT_FILENO};
 use screen::names::name;
 use screen::sums::next;
 use screen::{

@@ -1,9 +1,11 @@
 // The arguments: words and options, the commands, and what is wrong with them. The help text stands in ./linefiles, which answers without the program.
+#![tactic(auto)]
+
 pub mod decimal;
 pub mod letters;
 
 use decimal::{Number, number_of};
-use libc::{ENAMETOOLONG, STDERR_FILENO};
+use screen::STDERR_FILENO;
 use screen::names::path;
 use screen::sums::after;
 use screen::{TROUBLE, tell};

@@ -1,4 +1,6 @@
 // The sectors of the picture: 30 apart, each a square of 27 and its outline, with its title; and what is drawn upon them.
+#![tactic(auto)]
+
 use disk::{Place, Sector, Track};
 use holders::is_free;
 use pen::colours::{dark, light};

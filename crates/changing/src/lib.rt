@@ -1,11 +1,13 @@
 // A disk changed: a file saved to it or deleted from it, and the disk written.
+#![tactic(auto)]
+
 mod address;
 
 use address::address_of;
 use arguments::is_dash;
 use arguments::letters::unescape;
 use disk::{Place, Sector, Track};
-use libc::{STDERR_FILENO, STDOUT_FILENO};
+use screen::{STDERR_FILENO, STDOUT_FILENO};
 use lists::byte_at;
 use outcome::{NAME_TAKEN, NO_SPACE, NOT_CLEAN, OFF_SIZE, OTHER_SIDE, OVER_LIMIT, UNWRITABLE_NAME};
 use saving::{data_for, lists_for};

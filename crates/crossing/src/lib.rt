@@ -1,8 +1,10 @@
 // The sectors of a disk that serve two purposes, and the held ones that the VTOC's map calls free: each with its holders. What is counted in the last line is the
 // library's; here nothing is decided.
+#![tactic(auto)]
+
 use disk::{Place, Sector, Track, sectors_of};
 use holders::{HolderCounts, is_free};
-use libc::STDOUT_FILENO;
+use screen::STDOUT_FILENO;
 use screen::names::name;
 use screen::{GOOD, REFUSED, count, finish, place_column, right, say, sector_number, text_number};
 use uses::{KEPT, LIST, PAGE, VTOC, held_at, holder_at, name_of, owner, role, uses_of};

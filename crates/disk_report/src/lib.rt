@@ -1,7 +1,9 @@
 // What is said of a flat disk: its files with the links to them, and its survey, as text or as the rest of an object of JSON whose front says what was read.
+#![tactic(auto)]
+
 use file_walk::{Purpose, follow_files, refuse};
 use holders::HolderCounts;
-use libc::STDOUT_FILENO;
+use screen::STDOUT_FILENO;
 use outcome::NO_TABLE;
 use page_walk::follow_pages;
 use screen::{GOOD, count, finish, heads, json, right, say, text_number, text_place};

@@ -1,11 +1,13 @@
 // Files fetched from a disk: one by its name, or all Binary files into a folder, each under its own name.
+#![tactic(auto)]
+
 mod file_name;
 
 use arguments::is_dash;
 use arguments::letters::unescape;
 use file_name::file_name;
 use file_walk::{refuse, refuse_overlong};
-use libc::{STDERR_FILENO, STDOUT_FILENO};
+use screen::{STDERR_FILENO, STDOUT_FILENO};
 use lists::byte_at;
 use outcome::{NOT_ON_ROLL, OVERLONG};
 use screen::sums::{after, next};

@@ -1,9 +1,11 @@
 // The files of a disk and the lists of each, followed once more for people: each is shown on standard output, as text or as JSON, or the place where a refusal
 // is met is told on standard error. The library has judged the disk before; here nothing is decided.
+#![tactic(auto)]
+
 use catalog::{FileEntry, entry_start, first_page, last_page, parse_file_entry, raw_name};
 use disk::{Place, link_of, on_disk, sectors_of};
 use files::{MAX_PAIRS, PAIR_BYTES, last_list, parse_track_sector_pair};
-use libc::{STDERR_FILENO, STDOUT_FILENO};
+use screen::{STDERR_FILENO, STDOUT_FILENO};
 use lists::byte_at;
 use outcome::{CUT_LINK, NO_TABLE, OFF_DISC, OVERLONG, RING};
 use page_walk::{bad_link, follow_pages, is_live, last_link, link_object, twin_on_disk};

@@ -1,6 +1,8 @@
 // The program that people run: it reads a disk, a nibble stream or an archive, calls the libraries, and prints. `./linefiles help` says what it does.
 // A program of the kit has no exit status. So with `--status` as its first argument it writes the status, a digit, to descriptor 3: ./linefiles reads it there. Its
 // second argument is then `--as=`, with what is to be kept of a disk that is replaced.
+#![tactic(auto)]
+
 use arguments::{
     ALL, ARCHIVE, CHECK, CROSSED, DELETE, DENIBBLIZE, EMPTY, FILES, FORCE, FORECAST, GET, JSON,
     LIST, MAP, NIBBLIZE, OUT, RAW, SAVE, SHOW, SURVEY, SVG, changes, command_of, dashes, has_long,
@@ -8,7 +10,7 @@ use arguments::{
     value_of, word, wrong_options,
 };
 use file_walk::{refuse, refuse_overlong};
-use libc::{STDERR_FILENO, STDOUT_FILENO};
+use screen::{STDERR_FILENO, STDOUT_FILENO};
 use outcome::{NOT_ITS_RETURN, OVERLONG};
 use screen::{
     GOOD, REFUSED, TROUBLE, finish, input, json, names, refusal, say, tell, text, text_number,

@@ -1,11 +1,13 @@
 // A plan of saves told ahead, for people: what each takes of a disk, which would end in 21 and why, and the sums. Nothing is written.
+#![tactic(auto)]
+
 use arguments::decimal::{Number, number_of};
 use arguments::{word, words_behind};
 use changing::{
     data_space, is_older, left_of, open_lines, refuse_disk, say_zeros, sectors_for, sectors_taken,
     spare_sectors,
 };
-use libc::{STDERR_FILENO, STDOUT_FILENO};
+use screen::{STDERR_FILENO, STDOUT_FILENO};
 use outcome::PLAN_LONG;
 use screen::sums::{after, next};
 use screen::{

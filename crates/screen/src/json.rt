@@ -4,7 +4,7 @@ ghost use Rattle.std.specs.Prelude.{◌≤◌};
 use crate::sums::after;
 use crate::{kind_letters, number, say};
 use disk::Place;
-use libc::STDOUT_FILENO;
+use crate::STDOUT_FILENO;
 use lists::byte_at;
 
 fn letter(b: u8) {

@@ -1,4 +1,6 @@
 // What the program writes, to a descriptor: text, numbers, locations and refusals here, names in `names`, JSON in `json`. `sums` has what its parts count with.
+#![tactic(auto)]
+
 pub mod json;
 pub mod names;
 pub mod sums;
@@ -6,7 +8,6 @@ pub mod sums;
 ghost use Rattle.std.specs.Prelude.{◌≤◌};
 
 use disk::{Place, Sector, Track, sector_start};
-use libc::{STDERR_FILENO, STDOUT_FILENO};
 
 // The exit statuses.
 pub const GOOD: u8 = 0;

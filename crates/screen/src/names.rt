@@ -2,7 +2,7 @@
 ghost use Rattle.std.specs.Prelude.{◌≤◌};
 
 use crate::{number, text};
-use libc::STDOUT_FILENO;
+use crate::STDOUT_FILENO;
 use lists::byte_at;
 
 // The byte is one that a terminal may act on, or the backslash. Above `top` it is taken for one.

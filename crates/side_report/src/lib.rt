@@ -1,6 +1,8 @@
 // The two sides that save to one disk, as the program names them: who calls, and what is said of a side's names, sectors and limit.
+#![tactic(auto)]
+
 use arguments::{LIMIT, SIDE, SURVEY_OFFICE, has_option, limit_said, side_said};
-use libc::STDERR_FILENO;
+use screen::STDERR_FILENO;
 use screen::{count, names, number, tell, text, text_number};
 use sides::{Side, belongs_to, count_held};
 

@@ -1,9 +1,11 @@
 // Files by name: one read whole into lent space, one written whole or not at all. The name `-` is standard input or standard output.
+#![tactic(auto)]
+
 mod kept;
 mod standing;
 
 use kept::keep;
-use libc::{EEXIST, ENOENT, SEEK_END, SEEK_SET, STDERR_FILENO, STDIN_FILENO, STDOUT_FILENO};
+use screen::{STDERR_FILENO, STDIN_FILENO, STDOUT_FILENO};
 use screen::names::{input as show_input, path as show_path};
 use screen::sums::after;
 use screen::{GOOD, TROUBLE, finish, say, tell, text_number};

@@ -1,7 +1,6 @@
 // What stands at a path.
 ghost use Rattle.libc.specs.Io.{Ended};
 
-use libc::{F_OK, PATH_MAX};
 use lists::byte_at;
 use screen::sums::after;
 
