@@ -11,7 +11,7 @@ use screen::sums::{next, poke};
 use screen::{sector_number, vtoc};
 
 // How far the arrows have come: the files so far, and the place for the next byte.
-#[derive(Drop)]
+#[derive(Clone, Copy)]
 struct Step {
     files: u64,
     n: usize,

@@ -9,7 +9,7 @@ use screen::sector_number;
 use uses::{DATA, LIST, PAGE, VTOC, is_shared, name_of, owner, role, use_at};
 
 // A sector of the picture: where it stands, its number of `uses`, and whether the map calls it free.
-#[derive(Drop)]
+#[derive(Clone, Copy)]
 pub struct Seat {
     pub track: u8,
     pub sector: u8,

@@ -155,7 +155,7 @@ fn survey_lines(s: files::DiskSurvey) {
 }
 
 // How many sectors each side holds.
-#[derive(Drop)]
+#[derive(Clone, Copy)]
 struct Shares {
     ours: u64,
     survey: u64,

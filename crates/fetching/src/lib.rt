@@ -123,7 +123,7 @@ pub fn get(disk: &[u8], shown: &[u8], to: &[u8], empty: bool, force: bool) -> u8
 }
 
 // How many files were written, left out, and not written.
-#[derive(Drop)]
+#[derive(Clone, Copy)]
 struct Tally {
     written: u64,
     left_out: u64,
@@ -131,7 +131,7 @@ struct Tally {
 }
 
 // Of the files that are written: how many of this name stand before this one, and how many there are.
-#[derive(Drop)]
+#[derive(Clone, Copy)]
 struct Alike {
     before: u64,
     all: u64,

@@ -18,7 +18,7 @@ use screen::{
 
 // What the walk is for: `why` is 0 to show the files, or the refusal whose place is to be told. `object`: as JSON. `raw` asks for all names as they are cut;
 // `fetch` says that each file may be fetched.
-#[derive(Drop)]
+#[derive(Clone, Copy)]
 pub struct Purpose {
     pub why: u8,
     pub object: bool,
@@ -27,7 +27,7 @@ pub struct Purpose {
 }
 
 // How far the walk over the entries has come: the first refusal, how many entries there were, and the next entry's block in the archive.
-#[derive(Drop)]
+#[derive(Clone, Copy)]
 pub struct Step {
     pub refusal: u8,
     pub entries: u64,
@@ -238,7 +238,7 @@ fn space() -> [u8; 66000] {
 }
 
 // The bytes of an entry: whether they are known, and how many there are.
-#[derive(Drop)]
+#[derive(Clone, Copy)]
 struct Bytes {
     known: bool,
     number: u64,

@@ -93,7 +93,7 @@ fn gather(first: usize, many: usize, files: bool, lengths: &mut [u64]) -> bool {
 }
 
 // What is left for a save, those before it having been made: sectors that it may take, and entry lines; and how many of those before would end in 21.
-#[derive(Drop)]
+#[derive(Clone, Copy)]
 struct Left {
     sectors: u64,
     lines: u64,

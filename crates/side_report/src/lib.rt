@@ -7,7 +7,7 @@ use screen::{count, names, number, tell, text, text_number};
 use sides::{Side, belongs_to, count_held};
 
 // Who calls: a side or none, with a limit of sectors or none.
-#[derive(Drop)]
+#[derive(Clone, Copy)]
 pub struct Caller {
     pub sided: bool,
     pub side: Side,
