@@ -7,14 +7,13 @@ use catalog::{
     entry_start, first_page, last_page, parse_file_entry, plain_page, raw_name, valid_file,
 };
 use disk::{Place, link_of, on_disk, sectors_of};
-use screen::{STDERR_FILENO, STDOUT_FILENO};
 use lists::byte_at;
 use outcome::{BAD_LETTER, OFF_DISC, RING};
 use screen::names::shown_name;
 use screen::sums::{more, next, poke};
 use screen::{
-    count, json, names, place, place_column, say, sector_number, tell, text_number, text_place,
-    vtoc,
+    STDERR_FILENO, STDOUT_FILENO, count, json, names, place, place_column, say, sector_number,
+    tell, text_number, text_place, vtoc,
 };
 
 // Where a page or list ends its chain: its link, if that holds something.

@@ -158,7 +158,10 @@ fn is_there(path: &[u8], what: &[u8]) {
 fn create(rt: &HostRuntime, path: &[u8]) -> Result<File, Error> {
     let mut space = io::buffer();
     let name = of_folder(rt, path, &mut space)?;
-    OpenOptions::new().write(true).create_new(true).open(rt, name)
+    OpenOptions::new()
+        .write(true)
+        .create_new(true)
+        .open(rt, name)
 }
 
 // Opens a file to read and write it, with its bytes as they are.
@@ -251,7 +254,13 @@ fn fill(file: &mut File, path: &[u8], bytes: &[u8]) -> bool {
 }
 
 // Writes the file `part` and gives it the name `path`, which no file may have; what is left of it where that fails is the caller's.
-fn fill_and_name(rt: &HostRuntime, file: &mut File, part: &[u8], path: &[u8], bytes: &[u8]) -> bool {
+fn fill_and_name(
+    rt: &HostRuntime,
+    file: &mut File,
+    part: &[u8],
+    path: &[u8],
+    bytes: &[u8],
+) -> bool {
     if fill(file, path, bytes) {
         return put_in_place(rt, part, path);
     }
@@ -429,7 +438,13 @@ pub fn write_file(rt: &HostRuntime, path: &[u8], bytes: &[u8], force: bool) -> u
 }
 
 // Writes a file that is open and gives it the name `path`; what is left of it where that fails is the caller's.
-fn fill_and_rename(rt: &HostRuntime, file: &mut File, part: &[u8], path: &[u8], bytes: &[u8]) -> bool {
+fn fill_and_rename(
+    rt: &HostRuntime,
+    file: &mut File,
+    part: &[u8],
+    path: &[u8],
+    bytes: &[u8],
+) -> bool {
     if fill(file, path, bytes) {
         return is_done(path, rename(rt, part, path));
     }

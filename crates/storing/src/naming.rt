@@ -10,10 +10,7 @@ use std::str::from_utf8;
 pub fn text_of(path: &[u8]) -> Result<&str, Error> {
     match from_utf8(path) {
         Ok(name) => Ok(name),
-        Err(_) => Err(Error::new(
-            ErrorKind::InvalidFilename,
-            "the name is not UTF-8",
-        )),
+        Err(_) => Err(Error::new(ErrorKind::InvalidFilename, "the name is not UTF-8")),
     }
 }
 
@@ -97,11 +94,7 @@ fn named<'a>(
 }
 
 // The text by which what stands at a path is reached.
-pub fn of_own<'a>(
-    rt: &HostRuntime,
-    path: &'a [u8],
-    space: &'a mut [u8],
-) -> Result<&'a str, Error> {
+pub fn of_own<'a>(rt: &HostRuntime, path: &'a [u8], space: &'a mut [u8]) -> Result<&'a str, Error> {
     named(rt, path, true, space)
 }
 
