@@ -65,7 +65,7 @@ fn refuse(why: u8, size: u64) -> u8 {
 }
 
 // Shows the entries of an archive, or says why it is none.
-pub fn show(from: &[u8], archive: &[u8], raw: bool) -> u8 {
+pub fn show(rt: &HostRuntime, from: &[u8], archive: &[u8], raw: bool) -> u8 {
     let o = reader::open(archive);
     if o.refusal != 0 {
         return refuse(o.refusal, archive.len() as u64);
@@ -79,7 +79,7 @@ pub fn show(from: &[u8], archive: &[u8], raw: bool) -> u8 {
     let n = show_entries(archive, o.first, raw);
     say(b"\n");
     count(STDOUT_FILENO, n, b"file", b"files");
-    finish(b"\n")
+    finish(rt, b"\n")
 }
 
 // The first place where a and b differ; the shorter length where there is none.

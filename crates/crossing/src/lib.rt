@@ -108,7 +108,7 @@ fn show_kinds(disk: &[u8], h: HolderCounts, uses: &[u32], entries: &[u8]) {
     }
 }
 
-fn last_line(h: HolderCounts) -> u8 {
+fn last_line(rt: &HostRuntime, h: HolderCounts) -> u8 {
     say(b"\n");
     count(
         STDOUT_FILENO,
@@ -122,7 +122,7 @@ fn last_line(h: HolderCounts) -> u8 {
         b"held sector",
         b"held sectors",
     );
-    let status = finish(b" free in the map: not clean\n");
+    let status = finish(rt, b" free in the map: not clean\n");
     if status == GOOD {
         return REFUSED;
     }
@@ -130,9 +130,9 @@ fn last_line(h: HolderCounts) -> u8 {
 }
 
 // Lists these sectors of a disk that is not refused, whose counts are h: 0 where it is clean, 1 where it is not.
-pub fn list(disk: &[u8], h: HolderCounts) -> u8 {
+pub fn list(rt: &HostRuntime, disk: &[u8], h: HolderCounts) -> u8 {
     if h.clean {
-        return finish(
+        return finish(rt, 
             b"\nclean: no sector serves two purposes, and none that is held is free in the map\n",
         );
     }
@@ -140,5 +140,5 @@ pub fn list(disk: &[u8], h: HolderCounts) -> u8 {
     let mut entries = space();
     catalog::parse_catalogs(disk, &mut entries);
     show_kinds(disk, h, &uses, &entries);
-    last_line(h)
+    last_line(rt, h)
 }

@@ -23,12 +23,12 @@ fn side_numbered(number: u8) -> Side {
 }
 
 // The caller that the options say.
-pub fn caller_said(first: usize) -> Caller {
-    let n = limit_said(first);
+pub fn caller_said(rt: &HostRuntime, first: usize) -> Caller {
+    let n = limit_said(rt, first);
     Caller {
-        sided: has_option(first, SIDE),
-        side: side_numbered(side_said(first)),
-        limited: has_option(first, LIMIT),
+        sided: has_option(rt, first, SIDE),
+        side: side_numbered(side_said(rt, first)),
+        limited: has_option(rt, first, LIMIT),
         limit: n.value,
     }
 }
