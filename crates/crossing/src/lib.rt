@@ -4,9 +4,11 @@
 
 use disk::{Place, Sector, Track, sectors_of};
 use holders::{HolderCounts, is_free};
-use screen::STDOUT_FILENO;
 use screen::names::name;
-use screen::{GOOD, REFUSED, count, finish, place_column, right, say, sector_number, text_number};
+use screen::{
+    GOOD, REFUSED, STDOUT_FILENO, count, finish, place_column, right, say, sector_number,
+    text_number,
+};
 use uses::{KEPT, LIST, PAGE, VTOC, held_at, holder_at, name_of, owner, role, uses_of};
 
 // Space for the catalog: 37 bytes an entry, 560 pages of 7.
@@ -132,7 +134,8 @@ fn last_line(rt: &HostRuntime, h: HolderCounts) -> u8 {
 // Lists these sectors of a disk that is not refused, whose counts are h: 0 where it is clean, 1 where it is not.
 pub fn list(rt: &HostRuntime, disk: &[u8], h: HolderCounts) -> u8 {
     if h.clean {
-        return finish(rt, 
+        return finish(
+            rt,
             b"\nclean: no sector serves two purposes, and none that is held is free in the map\n",
         );
     }

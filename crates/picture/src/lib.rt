@@ -3,9 +3,8 @@
 
 use disk::{Place, Sector, Track, sectors_of};
 use holders::is_free;
-use screen::STDOUT_FILENO;
 use screen::sums::{more, poke};
-use screen::{right, say, sector_number};
+use screen::{STDOUT_FILENO, right, say, sector_number};
 use uses::{is_shared, role, use_at, uses_of};
 
 // The letters of the roles and, behind them, of what is shared; then those for sectors that the VTOC's map calls free.
