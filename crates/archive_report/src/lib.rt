@@ -1,12 +1,11 @@
 // What is said of an archive: its entries, without a disk, and where it differs from the archive of a disk.
 #![tactic(auto)]
 
-use screen::{STDERR_FILENO, STDOUT_FILENO};
 use screen::names::name;
 use screen::sums::next;
 use screen::{
-    BINARY, REFUSED, bytes_column, count, entry_columns, finish, heads, input, names, refusal, say,
-    tell, text_number,
+    BINARY, REFUSED, STDERR_FILENO, STDOUT_FILENO, bytes_column, count, entry_columns, finish,
+    heads, input, names, refusal, say, tell, text_number,
 };
 
 // A file of an archive, which was opened before, has a name that shows as this one does and is cut differently. An entry block has its link where a data block has it.

@@ -5,15 +5,14 @@
 use catalog::{FileEntry, entry_start, first_page, last_page, parse_file_entry, raw_name};
 use disk::{Place, link_of, on_disk, sectors_of};
 use files::{MAX_PAIRS, PAIR_BYTES, last_list, parse_track_sector_pair};
-use screen::{STDERR_FILENO, STDOUT_FILENO};
 use lists::byte_at;
 use outcome::{CUT_LINK, NO_TABLE, OFF_DISC, OVERLONG, RING};
 use page_walk::{bad_link, follow_pages, is_live, last_link, link_object, twin_on_disk};
 use screen::names::shown_name;
 use screen::sums::{next, poke};
 use screen::{
-    BINARY, REFUSED, bytes_column, entry_columns, json, names, place_column, refusal, right, say,
-    sector_number, tell, text_number, text_place, vtoc,
+    BINARY, REFUSED, STDERR_FILENO, STDOUT_FILENO, bytes_column, entry_columns, json, names,
+    place_column, refusal, right, say, sector_number, tell, text_number, text_place, vtoc,
 };
 
 // What the walk is for: `why` is 0 to show the files, or the refusal whose place is to be told. `object`: as JSON. `raw` asks for all names as they are cut;
