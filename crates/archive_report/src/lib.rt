@@ -1,10 +1,11 @@
 // What is said of an archive: its entries, without a disk, and where it differs from the archive of a disk.
-use libc::{STDERR_FILENO, STDOUT_FILENO};
+#![tactic(auto)]
+
 use screen::names::name;
 use screen::sums::next;
 use screen::{
-    BINARY, REFUSED, bytes_column, count, entry_columns, finish, heads, input, names, refusal, say,
-    tell, text_number,
+    BINARY, REFUSED, STDERR_FILENO, STDOUT_FILENO, bytes_column, count, entry_columns, finish,
+    heads, input, names, refusal, say, tell, text_number,
 };
 
 // A file of an archive, which was opened before, has a name that shows as this one does and is cut differently. An entry block has its link where a data block has it.
@@ -63,7 +64,7 @@ fn refuse(why: u8, size: u64) -> u8 {
 }
 
 // Shows the entries of an archive, or says why it is none.
-pub fn show(from: &[u8], archive: &[u8], raw: bool) -> u8 {
+pub fn show(rt: &HostRuntime, from: &[u8], archive: &[u8], raw: bool) -> u8 {
     let o = reader::open(archive);
     if o.refusal != 0 {
         return refuse(o.refusal, archive.len() as u64);
@@ -77,7 +78,7 @@ pub fn show(from: &[u8], archive: &[u8], raw: bool) -> u8 {
     let n = show_entries(archive, o.first, raw);
     say(b"\n");
     count(STDOUT_FILENO, n, b"file", b"files");
-    finish(b"\n")
+    finish(rt, b"\n")
 }
 
 // The first place where a and b differ; the shorter length where there is none.

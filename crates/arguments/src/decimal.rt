@@ -1,7 +1,7 @@
 // A number of 64 bits, in decimal digits.
 use lists::byte_at;
 
-#[derive(Drop)]
+#[derive(Clone, Copy)]
 pub struct Number {
     pub good: bool,
     pub value: u64,

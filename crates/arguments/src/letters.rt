@@ -12,7 +12,7 @@ fn digit(c: u8) -> u8 {
 }
 
 // What stands at i in a name as `list` shows it: the byte, and how many bytes of the name it takes.
-#[derive(Drop)]
+#[derive(Clone, Copy)]
 struct Letter {
     byte: u8,
     width: usize,

@@ -1,12 +1,14 @@
 // The arguments: words and options, the commands, and what is wrong with them. The help text stands in ./linefiles, which answers without the program.
+#![tactic(auto)]
+
 pub mod decimal;
 pub mod letters;
 
 use decimal::{Number, number_of};
-use libc::{ENAMETOOLONG, STDERR_FILENO};
 use screen::names::path;
 use screen::sums::after;
-use screen::{TROUBLE, tell};
+use screen::{STDERR_FILENO, TROUBLE, tell};
+use std::env::{Env, FillError};
 
 // The commands.
 pub const LIST: u8 = 1;
@@ -68,6 +70,25 @@ pub const OURS: u8 = 1;
 
 pub const SURVEY_OFFICE: u8 = 2;
 
+// Puts argument i into buf: its length, and 0 where there is none, or it is longer than buf.
+pub fn argument(rt: &HostRuntime, i: usize, buf: &mut [u8]) -> usize {
+    match rt.arg(i, buf) {
+        Ok(n) => n,
+        Err(_) => 0,
+    }
+}
+
+// How many arguments there are, the program's own name among them.
+fn argument_count(rt: &HostRuntime) -> usize {
+    let mut one = [0u8; 1];
+    for i in 0..usize::MAX {
+        if let Err(FillError::NotPresent) = rt.arg(i, &mut one) {
+            return i;
+        }
+    }
+    usize::MAX
+}
+
 // A word in a cell of a table: zeros behind it. A word that is longer than a cell is none of the table's, and its cell is empty.
 fn cell_of(w: &[u8]) -> [u8; 10] {
     let mut cell = [0u8; 10];
@@ -107,9 +128,9 @@ pub fn command_of(w: &[u8]) -> u8 {
 }
 
 // The option that argument i is, 0 for none.
-fn option_of(i: usize) -> u8 {
+fn option_of(rt: &HostRuntime, i: usize) -> u8 {
     let mut w = [0u8; 8];
-    let n = os::arg(i, &mut w);
+    let n = argument(rt, i, &mut w);
     let cell = cell_of(lists::part(&w, 0, n));
     number_in(
         b"--force\0\0\0\
@@ -130,11 +151,11 @@ fn option_of(i: usize) -> u8 {
 }
 
 // The place of `--` among the arguments from `first` on; past the end where there is none.
-fn end_of_options(first: usize) -> usize {
-    let all = os::arg_count();
+fn end_of_options(rt: &HostRuntime, first: usize) -> usize {
+    let all = argument_count(rt);
     let mut at = first;
     while at < all {
-        if option_of(at) == END {
+        if option_of(rt, at) == END {
             return at;
         }
         at += 1;
@@ -150,11 +171,11 @@ fn has_value(option: u8) -> bool {
 }
 
 // Argument i is the value of the option before it, which is no value itself.
-fn is_value(i: usize) -> bool {
+fn is_value(rt: &HostRuntime, i: usize) -> bool {
     let mut at = i;
     let mut value = false;
     while 0 < at {
-        if !has_value(option_of(at - 1)) {
+        if !has_value(option_of(rt, at - 1)) {
             return value;
         }
         value = !value;
@@ -164,24 +185,24 @@ fn is_value(i: usize) -> bool {
 }
 
 // The option that argument i is, where the options end at `end`; a value is no option either.
-fn option_before(end: usize, i: usize) -> u8 {
+fn option_before(rt: &HostRuntime, end: usize, i: usize) -> u8 {
     if end < i {
         return 0;
     }
-    if is_value(i) {
+    if is_value(rt, i) {
         return VALUE;
     }
-    option_of(i)
+    option_of(rt, i)
 }
 
 // The place among the arguments of word k from `first` on, the options left out; past the end where there is none.
-fn word_place(first: usize, k: usize) -> usize {
-    let all = os::arg_count();
-    let end = end_of_options(first);
+fn word_place(rt: &HostRuntime, first: usize, k: usize) -> usize {
+    let all = argument_count(rt);
+    let end = end_of_options(rt, first);
     let mut left = k;
     let mut at = first;
     while at < all {
-        if option_before(end, at) == 0 {
+        if option_before(rt, end, at) == 0 {
             if left == 0 {
                 return at;
             }
@@ -193,17 +214,17 @@ fn word_place(first: usize, k: usize) -> usize {
 }
 
 // Word k from the command on, which is word 0, into buf: its length. The options are left out.
-pub fn word(first: usize, k: usize, buf: &mut [u8]) -> usize {
-    let i = word_place(first, k);
-    os::arg(i, buf)
+pub fn word(rt: &HostRuntime, first: usize, k: usize, buf: &mut [u8]) -> usize {
+    let i = word_place(rt, first, k);
+    argument(rt, i, buf)
 }
 
-pub fn has_option(first: usize, option: u8) -> bool {
-    let all = os::arg_count();
-    let end = end_of_options(first);
+pub fn has_option(rt: &HostRuntime, first: usize, option: u8) -> bool {
+    let all = argument_count(rt);
+    let end = end_of_options(rt, first);
     let mut at = first;
     while at < all {
-        if option_before(end, at) == option {
+        if option_before(rt, end, at) == option {
             return true;
         }
         at += 1;
@@ -212,13 +233,13 @@ pub fn has_option(first: usize, option: u8) -> bool {
 }
 
 // The value of an option into buf: its length. Of an option that is said twice the first counts.
-pub fn value_of(first: usize, option: u8, buf: &mut [u8]) -> usize {
-    let all = os::arg_count();
-    let end = end_of_options(first);
+pub fn value_of(rt: &HostRuntime, first: usize, option: u8, buf: &mut [u8]) -> usize {
+    let all = argument_count(rt);
+    let end = end_of_options(rt, first);
     let mut at = first;
     while at < all {
-        if option_before(end, at) == option {
-            return os::arg(at + 1, buf);
+        if option_before(rt, end, at) == option {
+            return argument(rt, at + 1, buf);
         }
         at += 1;
     }
@@ -226,12 +247,12 @@ pub fn value_of(first: usize, option: u8, buf: &mut [u8]) -> usize {
 }
 
 // The last argument is an option, and its value is missing.
-fn lacks_value(first: usize) -> bool {
-    let all = os::arg_count();
+fn lacks_value(rt: &HostRuntime, first: usize) -> bool {
+    let all = argument_count(rt);
     if all == 0 {
         return false;
     }
-    has_value(option_before(end_of_options(first), all - 1))
+    has_value(option_before(rt, end_of_options(rt, first), all - 1))
 }
 
 // The side that a word names, 0 for none.
@@ -246,25 +267,25 @@ fn side_of(w: &[u8]) -> u8 {
 }
 
 // The side that --side says, 0 where it says none.
-pub fn side_said(first: usize) -> u8 {
+pub fn side_said(rt: &HostRuntime, first: usize) -> u8 {
     let mut w = io::buffer();
-    let n = value_of(first, SIDE, &mut w);
+    let n = value_of(rt, first, SIDE, &mut w);
     side_of(lists::part(&w, 0, n))
 }
 
 // The limit that --limit says.
-pub fn limit_said(first: usize) -> Number {
+pub fn limit_said(rt: &HostRuntime, first: usize) -> Number {
     let mut w = io::buffer();
-    let n = value_of(first, LIMIT, &mut w);
+    let n = value_of(rt, first, LIMIT, &mut w);
     number_of(lists::part(&w, 0, n))
 }
 
 // The sectors a track that an option says, 0 where none does.
-pub fn said(first: usize) -> u8 {
-    if has_option(first, AS_13) {
+pub fn said(rt: &HostRuntime, first: usize) -> u8 {
+    if has_option(rt, first, AS_13) {
         return 13;
     }
-    if has_option(first, AS_16) {
+    if has_option(rt, first, AS_16) {
         return 16;
     }
     0
@@ -276,16 +297,16 @@ pub fn is_dash(w: &[u8]) -> bool {
 }
 
 // Where a command has the name of its output among its words, 0 where it has none. That of `get --all` is a folder.
-pub fn out_word(command: u8, first: usize) -> usize {
+pub fn out_word(rt: &HostRuntime, command: u8, first: usize) -> usize {
     match command {
         GET => {
-            if has_option(first, ALL) {
+            if has_option(rt, first, ALL) {
                 return 0;
             }
             3
         }
         MAP => {
-            if has_option(first, SVG) {
+            if has_option(rt, first, SVG) {
                 return 2;
             }
             0
@@ -296,24 +317,24 @@ pub fn out_word(command: u8, first: usize) -> usize {
 }
 
 // How many words a command wants behind it.
-fn wants(command: u8, first: usize) -> usize {
+fn wants(rt: &HostRuntime, command: u8, first: usize) -> usize {
     match command {
         LIST | SURVEY | CROSSED | SHOW => 1,
         MAP => {
-            if has_option(first, SVG) {
+            if has_option(rt, first, SVG) {
                 return 2;
             }
             1
         }
         GET => {
-            if has_option(first, ALL) {
+            if has_option(rt, first, ALL) {
                 return 2;
             }
             3
         }
         SAVE => 4,
         FORECAST => {
-            if has_option(first, FILES) {
+            if has_option(rt, first, FILES) {
                 return 2;
             }
             1
@@ -323,13 +344,13 @@ fn wants(command: u8, first: usize) -> usize {
 }
 
 // How many words there are, the command among them.
-fn all_words(first: usize) -> usize {
-    let all = os::arg_count();
-    let end = end_of_options(first);
+fn all_words(rt: &HostRuntime, first: usize) -> usize {
+    let all = argument_count(rt);
+    let end = end_of_options(rt, first);
     let mut n: usize = 0;
     let mut at = first;
     while at < all {
-        if option_before(end, at) == 0 {
+        if option_before(rt, end, at) == 0 {
             n = after(n, 1);
         }
         at += 1;
@@ -338,8 +359,8 @@ fn all_words(first: usize) -> usize {
 }
 
 // How many words stand behind word k.
-pub fn words_behind(first: usize, k: usize) -> usize {
-    let n = all_words(first);
+pub fn words_behind(rt: &HostRuntime, first: usize, k: usize) -> usize {
+    let n = all_words(rt, first);
     if n <= k {
         return 0;
     }
@@ -347,28 +368,28 @@ pub fn words_behind(first: usize, k: usize) -> usize {
 }
 
 // The number of words behind a command is what it wants; behind `forecast` there may be more.
-pub fn has_words(command: u8, first: usize) -> bool {
-    let n = words_behind(first, 0);
-    let wanted = wants(command, first);
+pub fn has_words(rt: &HostRuntime, command: u8, first: usize) -> bool {
+    let n = words_behind(rt, first, 0);
+    let wanted = wants(rt, command, first);
     let more = (command == FORECAST) & (wanted < n);
-    ((n == wanted) | more) & !lacks_value(first)
+    ((n == wanted) | more) & !lacks_value(rt, first)
 }
 
 // Argument i is `-`.
-fn is_dash_at(i: usize) -> bool {
+fn is_dash_at(rt: &HostRuntime, i: usize) -> bool {
     let mut w = [0u8; 1];
-    let n = os::arg(i, &mut w);
+    let n = argument(rt, i, &mut w);
     is_dash(lists::part(&w, 0, n))
 }
 
 // How many words are `-`.
-pub fn dashes(first: usize) -> usize {
-    let all = os::arg_count();
-    let end = end_of_options(first);
+pub fn dashes(rt: &HostRuntime, first: usize) -> usize {
+    let all = argument_count(rt);
+    let end = end_of_options(rt, first);
     let mut n: usize = 0;
     let mut at = first;
     while at < all {
-        if (option_before(end, at) == 0) & is_dash_at(at) {
+        if (option_before(rt, end, at) == 0) & is_dash_at(rt, at) {
             n = after(n, 1);
         }
         at += 1;
@@ -377,17 +398,16 @@ pub fn dashes(first: usize) -> usize {
 }
 
 // The argument is longer than any that is taken.
-fn is_long(i: usize) -> bool {
+fn is_long(rt: &HostRuntime, i: usize) -> bool {
     let mut w = io::buffer();
-    os::arg(i, &mut w);
-    os::errno() == ENAMETOOLONG
+    matches!(rt.arg(i, &mut w), Err(FillError::TooLong))
 }
 
-pub fn has_long(first: usize) -> bool {
-    let all = os::arg_count();
+pub fn has_long(rt: &HostRuntime, first: usize) -> bool {
+    let all = argument_count(rt);
     let mut at = first;
     while at < all {
-        if is_long(at) {
+        if is_long(rt, at) {
             return true;
         }
         at += 1;
@@ -396,19 +416,19 @@ pub fn has_long(first: usize) -> bool {
 }
 
 // The argument begins as an option does, and is none.
-fn is_odd(i: usize) -> bool {
+fn is_odd(rt: &HostRuntime, i: usize) -> bool {
     let mut w = io::buffer();
-    let n = os::arg(i, &mut w);
-    (1 < n) & ((lists::byte_at(&w, 0) == b'-') & (option_of(i) == 0))
+    let n = argument(rt, i, &mut w);
+    (1 < n) & ((lists::byte_at(&w, 0) == b'-') & (option_of(rt, i) == 0))
 }
 
 // The place of the first argument that begins as an option does and is none; past the end where there is none.
-fn odd_place(first: usize) -> usize {
-    let all = os::arg_count();
-    let end = end_of_options(first);
+fn odd_place(rt: &HostRuntime, first: usize) -> usize {
+    let all = argument_count(rt);
+    let end = end_of_options(rt, first);
     let mut at = first;
     while at < all {
-        if (at < end) & (is_odd(at) & !is_value(at)) {
+        if (at < end) & (is_odd(rt, at) & !is_value(rt, at)) {
             return at;
         }
         at += 1;
@@ -417,13 +437,13 @@ fn odd_place(first: usize) -> usize {
 }
 
 // Whether an option is said that there is not. Then this is said.
-pub fn unknown_option(first: usize) -> bool {
-    let at = odd_place(first);
-    if os::arg_count() <= at {
+pub fn unknown_option(rt: &HostRuntime, first: usize) -> bool {
+    let at = odd_place(rt, first);
+    if argument_count(rt) <= at {
         return false;
     }
     let mut w = io::buffer();
-    let n = os::arg(at, &mut w);
+    let n = argument(rt, at, &mut w);
     tell(b"linefiles: there is no option ");
     path(STDERR_FILENO, lists::part(&w, 0, n));
     tell(b"; behind -- it is a word\n");
@@ -490,9 +510,9 @@ fn takes(command: u8, option: u8) -> bool {
 }
 
 // The first option that is said and that the command does not take, 0 where there is none.
-fn misplaced(command: u8, first: usize) -> u8 {
+fn misplaced(rt: &HostRuntime, command: u8, first: usize) -> u8 {
     for option in 1..13u8 {
-        if has_option(first, option) & !takes(command, option) {
+        if has_option(rt, first, option) & !takes(command, option) {
             return option;
         }
     }
@@ -517,9 +537,9 @@ fn tell_option(option: u8) {
 }
 
 // Says what is wrong with the value of an option. True.
-fn wrong_value(first: usize, option: u8, why: &[u8]) -> bool {
+fn wrong_value(rt: &HostRuntime, first: usize, option: u8, why: &[u8]) -> bool {
     let mut w = io::buffer();
-    let n = value_of(first, option, &mut w);
+    let n = value_of(rt, first, option, &mut w);
     tell(b"linefiles: ");
     path(STDERR_FILENO, lists::part(&w, 0, n));
     tell(why);
@@ -527,15 +547,16 @@ fn wrong_value(first: usize, option: u8, why: &[u8]) -> bool {
 }
 
 // Whether side or limit are said as they cannot be, or one of them is missing. Then this is said.
-fn wrong_side(command: u8, first: usize) -> bool {
-    let sided = has_option(first, SIDE);
-    let limited = has_option(first, LIMIT);
-    if sided & (side_said(first) == 0) {
-        return wrong_value(first, SIDE, b" is no side; one is ours or survey\n");
+fn wrong_side(rt: &HostRuntime, command: u8, first: usize) -> bool {
+    let sided = has_option(rt, first, SIDE);
+    let limited = has_option(rt, first, LIMIT);
+    if sided & (side_said(rt, first) == 0) {
+        return wrong_value(rt, first, SIDE, b" is no side; one is ours or survey\n");
     }
-    let limit = limit_said(first);
+    let limit = limit_said(rt, first);
     if limited & !limit.good {
         return wrong_value(
+            rt,
             first,
             LIMIT,
             b" is no limit; one is 0 to 18446744073709551615\n",
@@ -553,21 +574,21 @@ fn wrong_side(command: u8, first: usize) -> bool {
 }
 
 // Whether an option stands where it says nothing, or two against each other. Then this is said.
-pub fn wrong_options(command: u8, first: usize) -> bool {
-    let option = misplaced(command, first);
+pub fn wrong_options(rt: &HostRuntime, command: u8, first: usize) -> bool {
+    let option = misplaced(rt, command, first);
     if option != 0 {
         tell(b"linefiles: this command does not take ");
         tell_option(option);
         tell(b"\n");
         return true;
     }
-    if (changes(command) & has_option(first, FORCE)) & !has_option(first, OUT) {
+    if (changes(command) & has_option(rt, first, FORCE)) & !has_option(rt, first, OUT) {
         tell(b"linefiles: --force is for --out; without it the disk itself is replaced\n");
         return true;
     }
-    if has_option(first, AS_13) & has_option(first, AS_16) {
+    if has_option(rt, first, AS_13) & has_option(rt, first, AS_16) {
         tell(b"linefiles: --13 and --16 are both said; a stream is taken by one of them\n");
         return true;
     }
-    wrong_side(command, first)
+    wrong_side(rt, command, first)
 }

@@ -1,4 +1,6 @@
 // The links followed, as arrows: from the VTOC to the first page, from page to page, from a page to the first list of each of its entries, from list to list.
+#![tactic(auto)]
+
 use catalog::{entry_list, entry_start, first_page, last_page, valid_file};
 use disk::{Place, link_of};
 use files::last_list;
@@ -9,7 +11,7 @@ use screen::sums::{next, poke};
 use screen::{sector_number, vtoc};
 
 // How far the arrows have come: the files so far, and the place for the next byte.
-#[derive(Drop)]
+#[derive(Clone, Copy)]
 struct Step {
     files: u64,
     n: usize,

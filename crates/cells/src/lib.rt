@@ -1,4 +1,6 @@
 // The sectors of the picture: 30 apart, each a square of 27 and its outline, with its title; and what is drawn upon them.
+#![tactic(auto)]
+
 use disk::{Place, Sector, Track};
 use holders::is_free;
 use pen::colours::{dark, light};
@@ -7,7 +9,7 @@ use screen::sector_number;
 use uses::{DATA, LIST, PAGE, VTOC, is_shared, name_of, owner, role, use_at};
 
 // A sector of the picture: where it stands, its number of `uses`, and whether the map calls it free.
-#[derive(Drop)]
+#[derive(Clone, Copy)]
 pub struct Seat {
     pub track: u8,
     pub sector: u8,

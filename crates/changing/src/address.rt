@@ -1,7 +1,7 @@
 // A load address: a number up to 65535, in decimal, or in hexadecimal behind $ or 0x.
 use lists::byte_at;
 
-#[derive(Drop)]
+#[derive(Clone, Copy)]
 pub struct Address {
     pub good: bool,
     pub value: u16,

@@ -1,11 +1,13 @@
 // A disk changed: a file saved to it or deleted from it, and the disk written.
+#![tactic(auto)]
+
 mod address;
 
 use address::address_of;
 use arguments::is_dash;
 use arguments::letters::unescape;
 use disk::{Place, Sector, Track};
-use libc::{STDERR_FILENO, STDOUT_FILENO};
+use screen::{STDERR_FILENO, STDOUT_FILENO};
 use lists::byte_at;
 use outcome::{NAME_TAKEN, NO_SPACE, NOT_CLEAN, OFF_SIZE, OTHER_SIDE, OVER_LIMIT, UNWRITABLE_NAME};
 use saving::{data_for, lists_for};
@@ -38,16 +40,16 @@ fn notes_to(to: &[u8]) -> i32 {
 }
 
 // Writes the disk: over the file from which it came, or to another.
-fn write_disk(disk: &[u8], to: &[u8], over: bool, force: bool) -> u8 {
+fn write_disk(rt: &HostRuntime, disk: &[u8], to: &[u8], over: bool, force: bool) -> u8 {
     if !over {
-        return write_file(to, disk, force);
+        return write_file(rt, to, disk, force);
     }
-    let status = replace_file(to, disk);
+    let status = replace_file(rt, to, disk);
     if status == GOOD {
         text(STDOUT_FILENO, b"replaced ");
         names::path(STDOUT_FILENO, to);
         text_number(STDOUT_FILENO, b", ", disk.len() as u64);
-        return finish(b" bytes\n");
+        return finish(rt, b" bytes\n");
     }
     status
 }
@@ -262,7 +264,7 @@ fn delete_from(image: &mut [u8], disk: &[u8], caller: Caller, name: &[u8]) -> u8
 }
 
 // Saves the bytes to the disk, and writes it.
-fn save_bytes(
+fn save_bytes(rt: &HostRuntime, 
     disk: &[u8],
     caller: Caller,
     shown: &[u8],
@@ -280,7 +282,7 @@ fn save_bytes(
     if why != 0 {
         return refuse(disk, caller, why, name, data.len());
     }
-    let status = write_disk(&image, to, over, force);
+    let status = write_disk(rt, &image, to, over, force);
     if status == GOOD {
         tell_saved(notes_to(to), name, at, data.len());
         say_held(notes_to(to), &image, caller);
@@ -289,7 +291,7 @@ fn save_bytes(
 }
 
 // Saves a file to a disk, for the side that the options from `first` on say; the disk goes to `to`, over the file there where that is said.
-pub fn save(
+pub fn save(rt: &HostRuntime, 
     disk: &[u8],
     first: usize,
     shown: &[u8],
@@ -310,13 +312,13 @@ pub fn save(
         return TROUBLE;
     }
     let mut data = data_space();
-    let l = read_front(file, &mut data);
+    let l = read_front(rt, file, &mut data);
     if !l.good {
         return TROUBLE;
     }
-    save_bytes(
+    save_bytes(rt, 
         disk,
-        caller_said(first),
+        caller_said(rt, first),
         shown,
         a.value,
         lists::part(&data, 0, l.length),
@@ -334,11 +336,11 @@ fn tell_deleted(fd: i32, name: &[u8]) {
 }
 
 // Deletes a file from a disk, for the side that the options from `first` on say; the disk goes to `to`, over the file there where that is said.
-pub fn delete(disk: &[u8], first: usize, shown: &[u8], to: &[u8], over: bool, force: bool) -> u8 {
+pub fn delete(rt: &HostRuntime, disk: &[u8], first: usize, shown: &[u8], to: &[u8], over: bool, force: bool) -> u8 {
     if is_older(disk) {
         return REFUSED;
     }
-    let caller = caller_said(first);
+    let caller = caller_said(rt, first);
     let mut wanted = [0u8; 31];
     let k = unescape(shown, &mut wanted);
     let name = lists::part(&wanted, 0, k);
@@ -347,7 +349,7 @@ pub fn delete(disk: &[u8], first: usize, shown: &[u8], to: &[u8], over: bool, fo
     if why != 0 {
         return refuse(disk, caller, why, name, 0);
     }
-    let status = write_disk(&image, to, over, force);
+    let status = write_disk(rt, &image, to, over, force);
     if status == GOOD {
         tell_deleted(notes_to(to), name);
         say_held(notes_to(to), &image, caller);

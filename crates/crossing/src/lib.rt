@@ -1,10 +1,14 @@
 // The sectors of a disk that serve two purposes, and the held ones that the VTOC's map calls free: each with its holders. What is counted in the last line is the
 // library's; here nothing is decided.
+#![tactic(auto)]
+
 use disk::{Place, Sector, Track, sectors_of};
 use holders::{HolderCounts, is_free};
-use libc::STDOUT_FILENO;
 use screen::names::name;
-use screen::{GOOD, REFUSED, count, finish, place_column, right, say, sector_number, text_number};
+use screen::{
+    GOOD, REFUSED, STDOUT_FILENO, count, finish, place_column, right, say, sector_number,
+    text_number,
+};
 use uses::{KEPT, LIST, PAGE, VTOC, held_at, holder_at, name_of, owner, role, uses_of};
 
 // Space for the catalog: 37 bytes an entry, 560 pages of 7.
@@ -106,7 +110,7 @@ fn show_kinds(disk: &[u8], h: HolderCounts, uses: &[u32], entries: &[u8]) {
     }
 }
 
-fn last_line(h: HolderCounts) -> u8 {
+fn last_line(rt: &HostRuntime, h: HolderCounts) -> u8 {
     say(b"\n");
     count(
         STDOUT_FILENO,
@@ -120,7 +124,7 @@ fn last_line(h: HolderCounts) -> u8 {
         b"held sector",
         b"held sectors",
     );
-    let status = finish(b" free in the map: not clean\n");
+    let status = finish(rt, b" free in the map: not clean\n");
     if status == GOOD {
         return REFUSED;
     }
@@ -128,9 +132,10 @@ fn last_line(h: HolderCounts) -> u8 {
 }
 
 // Lists these sectors of a disk that is not refused, whose counts are h: 0 where it is clean, 1 where it is not.
-pub fn list(disk: &[u8], h: HolderCounts) -> u8 {
+pub fn list(rt: &HostRuntime, disk: &[u8], h: HolderCounts) -> u8 {
     if h.clean {
         return finish(
+            rt,
             b"\nclean: no sector serves two purposes, and none that is held is free in the map\n",
         );
     }
@@ -138,5 +143,5 @@ pub fn list(disk: &[u8], h: HolderCounts) -> u8 {
     let mut entries = space();
     catalog::parse_catalogs(disk, &mut entries);
     show_kinds(disk, h, &uses, &entries);
-    last_line(h)
+    last_line(rt, h)
 }

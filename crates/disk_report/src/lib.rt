@@ -1,7 +1,9 @@
 // What is said of a flat disk: its files with the links to them, and its survey, as text or as the rest of an object of JSON whose front says what was read.
+#![tactic(auto)]
+
 use file_walk::{Purpose, follow_files, refuse};
 use holders::HolderCounts;
-use libc::STDOUT_FILENO;
+use screen::STDOUT_FILENO;
 use outcome::NO_TABLE;
 use page_walk::follow_pages;
 use screen::{GOOD, count, finish, heads, json, right, say, text_number, text_place};
@@ -33,7 +35,7 @@ fn list_links(disk: &[u8], to_do: Purpose, archive: &[u8]) {
     }
 }
 
-fn list_end(disk: &[u8], entries: u64, links: u64) -> u8 {
+fn list_end(rt: &HostRuntime, disk: &[u8], entries: u64, links: u64) -> u8 {
     let pages = catalog::count_pages(disk).count as u64;
     say(b"\n");
     count(STDOUT_FILENO, entries, b"file", b"files");
@@ -50,7 +52,7 @@ fn list_end(disk: &[u8], entries: u64, links: u64) -> u8 {
             b"track/sector lists",
         );
     }
-    finish(b"\n")
+    finish(rt, b"\n")
 }
 
 // Whether each file of a disk may be fetched, which follows all links for each entry.
@@ -75,10 +77,10 @@ fn object_links(disk: &[u8], to_do: Purpose, archive: &[u8]) {
     say(b"\n  ]");
 }
 
-fn object_end(s: files::DiskSurvey) -> u8 {
+fn object_end(rt: &HostRuntime, s: files::DiskSurvey) -> u8 {
     say(b",\n  \"links\": ");
     json::known(s.refusal == 0, s.links);
-    finish(b"\n}\n")
+    finish(rt, b"\n}\n")
 }
 
 fn show_links(disk: &[u8], to_do: Purpose, archive: &[u8]) {
@@ -89,14 +91,14 @@ fn show_links(disk: &[u8], to_do: Purpose, archive: &[u8]) {
     list_links(disk, to_do, archive);
 }
 
-fn show_end(disk: &[u8], object: bool, s: files::DiskSurvey) -> u8 {
+fn show_end(rt: &HostRuntime, disk: &[u8], object: bool, s: files::DiskSurvey) -> u8 {
     if object {
-        return object_end(s);
+        return object_end(rt, s);
     }
     if s.refusal != 0 {
         return GOOD;
     }
-    list_end(disk, s.entries as u64, s.links)
+    list_end(rt, disk, s.entries as u64, s.links)
 }
 
 // A disk without a table, or one that a stream does not hold: nothing is listed.
@@ -113,7 +115,7 @@ fn refuse_table(disk: &[u8], object: bool) -> u8 {
 }
 
 // Lists the files of a disk, or says why it is refused.
-pub fn list(disk: &[u8], raw: bool, object: bool) -> u8 {
+pub fn list(rt: &HostRuntime, disk: &[u8], raw: bool, object: bool) -> u8 {
     let s = files::survey(disk);
     if s.refusal == NO_TABLE {
         return refuse_table(disk, object);
@@ -130,7 +132,7 @@ pub fn list(disk: &[u8], raw: bool, object: bool) -> u8 {
         fetch: may_fetch(s.refusal, s.entries, s.links),
     };
     show_links(disk, to_do, lists::part(&out, 0, h.length));
-    let status = show_end(disk, object, s);
+    let status = show_end(rt, disk, object, s);
     if s.refusal != 0 {
         return refuse(disk, s.refusal);
     }
@@ -153,7 +155,7 @@ fn survey_lines(s: files::DiskSurvey) {
 }
 
 // How many sectors each side holds.
-#[derive(Drop)]
+#[derive(Clone, Copy)]
 struct Shares {
     ours: u64,
     survey: u64,
@@ -176,15 +178,15 @@ fn share_lines(held: Shares) {
     survey_line(b"\n  survey office ", held.survey);
 }
 
-fn holder_lines(h: HolderCounts) -> u8 {
+fn holder_lines(rt: &HostRuntime, h: HolderCounts) -> u8 {
     survey_line(b"\n  unheld sectors", h.unheld as u64);
     survey_line(b"\n  held once     ", h.held_once as u64);
     survey_line(b"\n  shared sectors", h.shared as u64);
     survey_line(b"\n  held but free ", h.held_free as u64);
     if h.clean {
-        return finish(b"\n  clean               yes\n");
+        return finish(rt, b"\n  clean               yes\n");
     }
-    finish(b"\n  clean                no\n")
+    finish(rt, b"\n  clean                no\n")
 }
 
 // A key of the survey, whose value is null where the disk is refused.
@@ -219,27 +221,27 @@ fn share_keys(known: bool, held: Shares) {
     survey_key(b"survey_office_sectors", known, held.survey);
 }
 
-fn holder_keys(known: bool, h: HolderCounts) -> u8 {
+fn holder_keys(rt: &HostRuntime, known: bool, h: HolderCounts) -> u8 {
     survey_key(b"unheld", known, h.unheld as u64);
     survey_key(b"held_once", known, h.held_once as u64);
     survey_key(b"shared", known, h.shared as u64);
     survey_key(b"held_free", known, h.held_free as u64);
     say(b",\n  \"clean\": ");
     clean_value(known, h.clean);
-    finish(b"\n}\n")
+    finish(rt, b"\n}\n")
 }
 
 // The object of a disk, or of none: its values are null where there is a refusal.
-fn survey_object(refusal: u8, s: files::DiskSurvey, h: HolderCounts, held: Shares) -> u8 {
+fn survey_object(rt: &HostRuntime, refusal: u8, s: files::DiskSurvey, h: HolderCounts, held: Shares) -> u8 {
     json::refusal(refusal);
     survey_keys(refusal == 0, s);
     share_keys(refusal == 0, held);
-    holder_keys(refusal == 0, h)
+    holder_keys(rt, refusal == 0, h)
 }
 
 // A disk that a stream does not hold: nothing is surveyed.
-pub fn none_surveyed(refusal: u8) {
-    survey_object(
+pub fn none_surveyed(rt: &HostRuntime, refusal: u8) {
+    survey_object(rt, 
         refusal,
         files::survey(b""),
         holders::holders(b""),
@@ -247,21 +249,21 @@ pub fn none_surveyed(refusal: u8) {
     );
 }
 
-fn show_survey(s: files::DiskSurvey, h: HolderCounts, held: Shares, object: bool) -> u8 {
+fn show_survey(rt: &HostRuntime, s: files::DiskSurvey, h: HolderCounts, held: Shares, object: bool) -> u8 {
     if object {
-        return survey_object(s.refusal, s, h, held);
+        return survey_object(rt, s.refusal, s, h, held);
     }
     if s.refusal != 0 {
         return GOOD;
     }
     survey_lines(s);
     share_lines(held);
-    holder_lines(h)
+    holder_lines(rt, h)
 }
 
-pub fn survey(disk: &[u8], object: bool) -> u8 {
+pub fn survey(rt: &HostRuntime, disk: &[u8], object: bool) -> u8 {
     let s = files::survey(disk);
-    let status = show_survey(
+    let status = show_survey(rt, 
         s,
         holders::holders(disk),
         shares_of(disk, s.refusal),

@@ -1,11 +1,13 @@
 // Files fetched from a disk: one by its name, or all Binary files into a folder, each under its own name.
+#![tactic(auto)]
+
 mod file_name;
 
 use arguments::is_dash;
 use arguments::letters::unescape;
 use file_name::file_name;
 use file_walk::{refuse, refuse_overlong};
-use libc::{STDERR_FILENO, STDOUT_FILENO};
+use screen::{STDERR_FILENO, STDOUT_FILENO};
 use lists::byte_at;
 use outcome::{NOT_ON_ROLL, OVERLONG};
 use screen::sums::{after, next};
@@ -78,7 +80,7 @@ fn refuse_type(shown: &[u8], kind: u8) -> u8 {
 }
 
 // Writes what was fetched. Where that is nothing, the type of the file says whether an empty file is meant.
-fn write_fetched(
+fn write_fetched(rt: &HostRuntime, 
     disk: &[u8],
     shown: &[u8],
     name: &[u8],
@@ -93,11 +95,11 @@ fn write_fetched(
             return refuse_type(shown, kind);
         }
     }
-    write_file(to, bytes, force)
+    write_file(rt, to, bytes, force)
 }
 
 // Writes the bytes of the file with the name that is shown so to `to`; an empty file for one of another type only where `empty` is said.
-pub fn get(disk: &[u8], shown: &[u8], to: &[u8], empty: bool, force: bool) -> u8 {
+pub fn get(rt: &HostRuntime, disk: &[u8], shown: &[u8], to: &[u8], empty: bool, force: bool) -> u8 {
     let mut wanted = [0u8; 31];
     let k = unescape(shown, &mut wanted);
     let name = lists::part(&wanted, 0, k);
@@ -109,7 +111,7 @@ pub fn get(disk: &[u8], shown: &[u8], to: &[u8], empty: bool, force: bool) -> u8
     if h.refusal != 0 {
         return refuse(disk, h.refusal);
     }
-    write_fetched(
+    write_fetched(rt, 
         disk,
         shown,
         name,
@@ -121,7 +123,7 @@ pub fn get(disk: &[u8], shown: &[u8], to: &[u8], empty: bool, force: bool) -> u8
 }
 
 // How many files were written, left out, and not written.
-#[derive(Drop)]
+#[derive(Clone, Copy)]
 struct Tally {
     written: u64,
     left_out: u64,
@@ -129,7 +131,7 @@ struct Tally {
 }
 
 // Of the files that are written: how many of this name stand before this one, and how many there are.
-#[derive(Drop)]
+#[derive(Clone, Copy)]
 struct Alike {
     before: u64,
     all: u64,
@@ -217,7 +219,7 @@ fn say_alike(name: &[u8], n: Alike) {
     say(b"\n");
 }
 
-fn write_entry(
+fn write_entry(rt: &HostRuntime, 
     archive: &[u8],
     name: &[u8],
     e: reader::Entry,
@@ -229,7 +231,7 @@ fn write_entry(
     let k = path_in(folder, name, n, &mut path);
     let mut out = file_space();
     let length = data_of(archive, e, &mut out);
-    let status = write_file(
+    let status = write_file(rt, 
         lists::part(&path, 0, k),
         lists::part(&out, 0, length),
         force,
@@ -268,7 +270,7 @@ fn counted(status: u8, t: Tally) -> Tally {
 }
 
 // Writes the entry at a block, or leaves it out: a line for each.
-fn get_entry(
+fn get_entry(rt: &HostRuntime, 
     archive: &[u8],
     first: u16,
     block: u64,
@@ -283,10 +285,10 @@ fn get_entry(
         return leave_out(name, e.kind, t);
     }
     let n = count_alike(archive, first, block, empty);
-    counted(write_entry(archive, name, e, folder, n, force), t)
+    counted(write_entry(rt, archive, name, e, folder, n, force), t)
 }
 
-fn get_entries(archive: &[u8], first: u16, folder: &[u8], empty: bool, force: bool) -> Tally {
+fn get_entries(rt: &HostRuntime, archive: &[u8], first: u16, folder: &[u8], empty: bool, force: bool) -> Tally {
     let mut t = Tally {
         written: 0,
         left_out: 0,
@@ -298,27 +300,27 @@ fn get_entries(archive: &[u8], first: u16, folder: &[u8], empty: bool, force: bo
             return t;
         }
         let e = reader::next_entry(archive, block);
-        t = get_entry(archive, first, block, e, folder, empty, force, t);
+        t = get_entry(rt, archive, first, block, e, folder, empty, force, t);
         block = e.next as u64;
     }
     t
 }
 
-fn say_tally(t: Tally) -> u8 {
+fn say_tally(rt: &HostRuntime, t: Tally) -> u8 {
     say(b"\n");
     count(STDOUT_FILENO, t.written, b"file written", b"files written");
     text_number(STDOUT_FILENO, b", ", t.left_out);
     say(b" left out");
     if t.failed == 0 {
-        return finish(b"\n");
+        return finish(rt, b"\n");
     }
     text_number(STDOUT_FILENO, b", ", t.failed);
-    finish(b" not written\n");
+    finish(rt, b" not written\n");
     TROUBLE
 }
 
 // Writes every Binary file of a disk into a folder; those of other types too, empty, where `empty` is said.
-pub fn get_all(disk: &[u8], folder: &[u8], empty: bool, force: bool) -> u8 {
+pub fn get_all(rt: &HostRuntime, disk: &[u8], folder: &[u8], empty: bool, force: bool) -> u8 {
     if is_dash(folder) {
         tell(b"linefiles: --all writes to a folder, not to standard output\n");
         return TROUBLE;
@@ -331,10 +333,10 @@ pub fn get_all(disk: &[u8], folder: &[u8], empty: bool, force: bool) -> u8 {
     if h.refusal != 0 {
         return refuse(disk, h.refusal);
     }
-    if !ready_folder(folder) {
+    if !ready_folder(rt, folder) {
         return TROUBLE;
     }
     let archive = lists::part(&out, 0, h.length);
     let first = reader::open(archive).first;
-    say_tally(get_entries(archive, first, folder, empty, force))
+    say_tally(rt, get_entries(rt, archive, first, folder, empty, force))
 }

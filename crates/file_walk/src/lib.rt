@@ -1,22 +1,23 @@
 // The files of a disk and the lists of each, followed once more for people: each is shown on standard output, as text or as JSON, or the place where a refusal
 // is met is told on standard error. The library has judged the disk before; here nothing is decided.
+#![tactic(auto)]
+
 use catalog::{FileEntry, entry_start, first_page, last_page, parse_file_entry, raw_name};
 use disk::{Place, link_of, on_disk, sectors_of};
 use files::{MAX_PAIRS, PAIR_BYTES, last_list, parse_track_sector_pair};
-use libc::{STDERR_FILENO, STDOUT_FILENO};
 use lists::byte_at;
 use outcome::{CUT_LINK, NO_TABLE, OFF_DISC, OVERLONG, RING};
 use page_walk::{bad_link, follow_pages, is_live, last_link, link_object, twin_on_disk};
 use screen::names::shown_name;
 use screen::sums::{next, poke};
 use screen::{
-    BINARY, REFUSED, bytes_column, entry_columns, json, names, place_column, refusal, right, say,
-    sector_number, tell, text_number, text_place, vtoc,
+    BINARY, REFUSED, STDERR_FILENO, STDOUT_FILENO, bytes_column, entry_columns, json, names,
+    place_column, refusal, right, say, sector_number, tell, text_number, text_place, vtoc,
 };
 
 // What the walk is for: `why` is 0 to show the files, or the refusal whose place is to be told. `object`: as JSON. `raw` asks for all names as they are cut;
 // `fetch` says that each file may be fetched.
-#[derive(Drop)]
+#[derive(Clone, Copy)]
 pub struct Purpose {
     pub why: u8,
     pub object: bool,
@@ -25,7 +26,7 @@ pub struct Purpose {
 }
 
 // How far the walk over the entries has come: the first refusal, how many entries there were, and the next entry's block in the archive.
-#[derive(Drop)]
+#[derive(Clone, Copy)]
 pub struct Step {
     pub refusal: u8,
     pub entries: u64,
@@ -236,7 +237,7 @@ fn space() -> [u8; 66000] {
 }
 
 // The bytes of an entry: whether they are known, and how many there are.
-#[derive(Drop)]
+#[derive(Clone, Copy)]
 struct Bytes {
     known: bool,
     number: u64,

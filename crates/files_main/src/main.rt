@@ -11,8 +11,10 @@
 //     F8 TT SS       show the answer for the list at TT/SS, and the run of four pairs, which goes in as 201/202 203/204 205/206 207/208
 //     F7 TT SS       the same of the disk without its last byte
 //     F6             a disk of zeros
+#![tactic(auto)]
+
 use disk::{Sector, Track};
-use libc::STDOUT_FILENO;
+use trial::STDOUT_FILENO;
 use lists::part;
 use outcome::Handed;
 use pairs::TrackSectorPair;

@@ -9,6 +9,8 @@
 // A forecast shows its number, how many elements it hands over, and whether all others are as they were. If it is not refused, the sums follow, and the lengths with
 // (21) behind those that are marked. Then the saves are made on a copy of the disk, in order, under new names; a length over 40,000 is taken as 21. Shown is what the
 // disk is then, and "as saved" where each save ended in 21 if it is marked and else in 0, and the disk is clean and has by the sums more data sectors, lists and files.
+#![tactic(auto)]
+
 ghost use Rattle.std.specs.Prelude.{◌<◌};
 
 use lists::{byte_at, copy_at, part};

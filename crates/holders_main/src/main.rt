@@ -3,6 +3,8 @@
 //     16 KK          show the numbers of the disk's holders
 //     17 KK AA BB    those of its first AABB sectors, taken for a disk
 //     18 KK TT SS    show whether the map calls the sector free
+#![tactic(auto)]
+
 use disk::{Place, Sector, Track};
 use trial::{number, print, print_line, print_number, refusal_line};
 

@@ -12,6 +12,8 @@
 //     15 KK AA BB          as step 01 at every sector of the disk, VV being AA k + BB for sector k
 //     23 TT UU AA BB       map bytes 0 and 1 of the tracks TT to UU of the disk of 16 sectors a track are AA, BB
 // The 5-and-3 coding is written here alone: byte by byte, as DOS 3.2 does it. All is proved to end and never to trap, and no more than that.
+#![tactic(auto)]
+
 ghost use Rattle.std.specs.Prelude.{◌<◌, ◌≤◌};
 
 use disk::{Place, Sector, Track, sector_start};

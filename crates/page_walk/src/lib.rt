@@ -1,18 +1,19 @@
 // The catalog's pages, followed once more for people: each is shown on standard output, as text or as JSON, or the place where a refusal is met is told on
 // standard error.
 // The library has judged the disk before; here nothing is decided.
+#![tactic(auto)]
+
 use catalog::{
     entry_start, first_page, last_page, parse_file_entry, plain_page, raw_name, valid_file,
 };
 use disk::{Place, link_of, on_disk, sectors_of};
-use libc::{STDERR_FILENO, STDOUT_FILENO};
 use lists::byte_at;
 use outcome::{BAD_LETTER, OFF_DISC, RING};
 use screen::names::shown_name;
 use screen::sums::{more, next, poke};
 use screen::{
-    count, json, names, place, place_column, say, sector_number, tell, text_number, text_place,
-    vtoc,
+    STDERR_FILENO, STDOUT_FILENO, count, json, names, place, place_column, say, sector_number,
+    tell, text_number, text_place, vtoc,
 };
 
 // Where a page or list ends its chain: its link, if that holds something.

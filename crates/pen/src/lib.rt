@@ -1,4 +1,6 @@
 // What is written goes into `out` from place n on, and the place behind it is answered. What does not fit is left out.
+#![tactic(auto)]
+
 pub mod colours;
 
 use lists::byte_at;

@@ -1,9 +1,10 @@
 // The sectors of a disk as a picture in letters: what each serves, by the chains and by the VTOC's map.
+#![tactic(auto)]
+
 use disk::{Place, Sector, Track, sectors_of};
 use holders::is_free;
-use libc::STDOUT_FILENO;
 use screen::sums::{more, poke};
-use screen::{right, say, sector_number};
+use screen::{STDOUT_FILENO, right, say, sector_number};
 use uses::{is_shared, role, use_at, uses_of};
 
 // The letters of the roles and, behind them, of what is shared; then those for sectors that the VTOC's map calls free.

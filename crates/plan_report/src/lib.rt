@@ -1,11 +1,13 @@
 // A plan of saves told ahead, for people: what each takes of a disk, which would end in 21 and why, and the sums. Nothing is written.
+#![tactic(auto)]
+
 use arguments::decimal::{Number, number_of};
 use arguments::{word, words_behind};
 use changing::{
     data_space, is_older, left_of, open_lines, refuse_disk, say_zeros, sectors_for, sectors_taken,
     spare_sectors,
 };
-use libc::{STDERR_FILENO, STDOUT_FILENO};
+use screen::{STDERR_FILENO, STDOUT_FILENO};
 use outcome::PLAN_LONG;
 use screen::sums::{after, next};
 use screen::{
@@ -54,9 +56,9 @@ fn said_length(w: &[u8]) -> Number {
 }
 
 // The length of a file; of one that is longer than any that is saved, one byte more than the longest. Where it cannot be read, this is told.
-fn file_length(path: &[u8]) -> Number {
+fn file_length(rt: &HostRuntime, path: &[u8]) -> Number {
     let mut data = data_space();
-    let l = read_front(path, &mut data);
+    let l = read_front(rt, path, &mut data);
     Number {
         good: l.good,
         value: l.length as u64,
@@ -64,23 +66,23 @@ fn file_length(path: &[u8]) -> Number {
 }
 
 // Length k of the plan, which stands behind command and disk.
-fn length_at(first: usize, k: usize, files: bool) -> Number {
+fn length_at(rt: &HostRuntime, first: usize, k: usize, files: bool) -> Number {
     let mut w = io::buffer();
-    let n = word(first, after(2, k), &mut w);
+    let n = word(rt, first, after(2, k), &mut w);
     if files {
-        return file_length(lists::part(&w, 0, n));
+        return file_length(rt, lists::part(&w, 0, n));
     }
     said_length(lists::part(&w, 0, n))
 }
 
 // Puts the lengths of the plan into lent space, as far as they fit. False where one is none, which is told.
-fn gather(first: usize, many: usize, files: bool, lengths: &mut [u64]) -> bool {
+fn gather(rt: &HostRuntime, first: usize, many: usize, files: bool, lengths: &mut [u64]) -> bool {
     let mut k: usize = 0;
     while k < lengths.len() {
         if many <= k {
             return true;
         }
-        let l = length_at(first, k, files);
+        let l = length_at(rt, first, k, files);
         if !l.good {
             return false;
         }
@@ -91,7 +93,7 @@ fn gather(first: usize, many: usize, files: bool, lengths: &mut [u64]) -> bool {
 }
 
 // What is left for a save, those before it having been made: sectors that it may take, and entry lines; and how many of those before would end in 21.
-#[derive(Drop)]
+#[derive(Clone, Copy)]
 struct Left {
     sectors: u64,
     lines: u64,
@@ -125,9 +127,9 @@ fn length_front(size: u64) {
 }
 
 // The front of the line of a file: its name, and how many bytes it has.
-fn file_front(first: usize, k: usize, size: u64) {
+fn file_front(rt: &HostRuntime, first: usize, k: usize, size: u64) {
     let mut w = io::buffer();
-    let n = word(first, after(2, k), &mut w);
+    let n = word(rt, first, after(2, k), &mut w);
     names::input(STDOUT_FILENO, lists::part(&w, 0, n));
     if 32768 < size {
         say(b": more than 32768 bytes: ");
@@ -163,11 +165,11 @@ fn say_missing(size: u64, files: bool, left: Left) {
 }
 
 // The line of save k of the plan.
-fn line(first: usize, k: usize, files: bool, size: u64, mark: u64, left: Left) {
+fn line(rt: &HostRuntime, first: usize, k: usize, files: bool, size: u64, mark: u64, left: Left) {
     right(STDOUT_FILENO, next(k as u64), 4);
     say(b": ");
     if files {
-        file_front(first, k, size);
+        file_front(rt, first, k, size);
     } else {
         length_front(size);
     }
@@ -180,7 +182,7 @@ fn line(first: usize, k: usize, files: bool, size: u64, mark: u64, left: Left) {
 }
 
 // A line for each save of the plan; what is left behind them.
-fn lines(disk: &[u8], first: usize, files: bool, lengths: &[u64], numbers: &[u64]) -> Left {
+fn lines(rt: &HostRuntime, disk: &[u8], first: usize, files: bool, lengths: &[u64], numbers: &[u64]) -> Left {
     let mut left = Left {
         sectors: spare_sectors(disk),
         lines: open_lines(disk),
@@ -190,7 +192,7 @@ fn lines(disk: &[u8], first: usize, files: bool, lengths: &[u64], numbers: &[u64
     while k < lengths.len() {
         let size = lengths[k];
         let mark = number_at(numbers, after(3, k));
-        line(first, k, files, size, mark, left);
+        line(rt, first, k, files, size, mark, left);
         left = left_behind(left, size, mark);
         k += 1;
     }
@@ -212,7 +214,7 @@ fn say_verdict(many: u64, ended: u64) {
 }
 
 // The sums at the end, and the exit status.
-fn sums(many: u64, numbers: &[u64], left: Left) -> u8 {
+fn sums(rt: &HostRuntime, many: u64, numbers: &[u64], left: Left) -> u8 {
     say(b"in all: ");
     count(
         STDOUT_FILENO,
@@ -234,7 +236,7 @@ fn sums(many: u64, numbers: &[u64], left: Left) -> u8 {
     count(STDOUT_FILENO, left.sectors, b"sector", b"sectors");
     say(b" that may be taken, ");
     count(STDOUT_FILENO, left.lines, b"entry line", b"entry lines");
-    let status = finish(b"\n");
+    let status = finish(rt, b"\n");
     if (status == GOOD) & (0 < left.ended) {
         return REFUSED;
     }
@@ -255,26 +257,26 @@ fn refuse(disk: &[u8], why: u8) -> u8 {
 }
 
 // The forecast of a plan whose lengths are known.
-fn foretell(disk: &[u8], first: usize, files: bool, lengths: &[u64]) -> u8 {
+fn foretell(rt: &HostRuntime, disk: &[u8], first: usize, files: bool, lengths: &[u64]) -> u8 {
     let mut numbers = number_space();
     let h = forecast::forecast(disk, lengths, &mut numbers);
     if h.refusal != 0 {
         return refuse(disk, h.refusal);
     }
     say(b"\n");
-    let left = lines(disk, first, files, lengths, &numbers);
+    let left = lines(rt, disk, first, files, lengths, &numbers);
     if 0 < lengths.len() {
         say(b"\n");
     }
-    sums(lengths.len() as u64, &numbers, left)
+    sums(rt, lengths.len() as u64, &numbers, left)
 }
 
 // The forecast for the words behind the disk: lengths, or with `files` files whose lengths are taken.
-pub fn forecast(disk: &[u8], first: usize, files: bool) -> u8 {
-    let many = words_behind(first, 1);
+pub fn forecast(rt: &HostRuntime, disk: &[u8], first: usize, files: bool) -> u8 {
+    let many = words_behind(rt, first, 1);
     let mut lengths = length_space();
-    if !gather(first, many, files, &mut lengths) {
+    if !gather(rt, first, many, files, &mut lengths) {
         return TROUBLE;
     }
-    foretell(disk, first, files, front(&lengths, many))
+    foretell(rt, disk, first, files, front(&lengths, many))
 }

@@ -10,6 +10,8 @@
 //     07                step through the entries of the archive
 //     08 KK KK JJ JJ    let the 30 name bytes of each block from KKKK on, and before JJJJ, be A0h
 //     09 KK KK JJ JJ    let them be 0
+#![tactic(auto)]
+
 use reader::Entry;
 use trial::{place, print, print_line, print_number, refusal_line};
 

@@ -7,6 +7,8 @@
 //     F PPPPPP NN NN VV    put NNNN times VV, high byte first, at place PPPPPP
 //     U PPPPPP VV          put VV, VV + 1, VV + 2 and so on at 256 bytes from place PPPPPP on
 // All is proved to end and never to trap, and no more than that.
+#![tactic(auto)]
+
 ghost use Rattle.std.specs.Prelude.{◌<◌};
 
 use lists::{byte_at, fill_at, part, word_at};

@@ -5,6 +5,8 @@
 //     02 LL LL EE EE    write the page: the entries are EEEE bytes from 16 on; the header is as many bytes from 0 on as byte 15 says
 //     03 LL LL NN NN    write the file: bytes 0 to 4 are type, address, size; its data is NNNN bytes from 16 on
 //     04 AA BB DD       show the format of the first AABBDD bytes
+#![tactic(auto)]
+
 use disk::{Place, Sector, Track};
 use lists::{byte_at, part, word_at};
 use outcome::Handed;

@@ -1,8 +1,10 @@
 // image-rider's recorded answers on flat disks, asked of our libraries again. Standard input is the script that image-rider was asked, and `stdout` is what it answered;
 // README.md says how the two were made. The head of crates/recorded has the steps that lay the input. There is a space to put bytes in, and one step asks:
 //     L 000000    load the input as a flat disk: its number, table and entries, and for each entry the bytes of its name
+#![tactic(auto)]
+
 use disk::VolumeTableOfContents;
-use libc::STDIN_FILENO;
+use trial::STDIN_FILENO;
 use lists::{byte_at, part};
 use recorded::{answer_line, asks, behind, entry_lines, lay, line_end, line_from, name_of};
 use trial::{print, print_decimals, print_hex, print_line};

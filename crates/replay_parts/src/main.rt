@@ -7,8 +7,10 @@
 //     B 000000                  the file with type, address and length in the first five bytes (low bytes first), and behind them its data
 //     M 000000                  the prologue recognized in the input
 //     O 000000                  whether the input is a DOS 3.3 disk
+#![tactic(auto)]
+
 use disk::{Place, Sector, Track};
-use libc::STDIN_FILENO;
+use trial::STDIN_FILENO;
 use lists::{byte_at, part, word_at};
 use recorded::{
     answer_line, asks, behind, bytes_of, content, count, digits_of, lay, line_end, line_from,

@@ -14,6 +14,8 @@
 //                          2^64 - 1; 00 no side, as at the start. A step 26 asks for no side
 // A save or delete shows its number and the sectors that changed: up to 48 bytes that differ, or else how many and the sum of all. If it is not refused, bytes 48 and 49 of
 // the VTOC, whether the disk is clean, and the file of that name follow. Where a side asked and the number is not 1 to 6, it is shown last how many sectors each side holds.
+#![tactic(auto)]
+
 use lists::{byte_at, copy_at, fill_at, part, same};
 use sides::{Side, count_held};
 use trial::{

@@ -2,9 +2,8 @@
 ghost use Rattle.std.specs.Prelude.{◌≤◌};
 
 use crate::sums::after;
-use crate::{kind_letters, number, say};
+use crate::{STDOUT_FILENO, kind_letters, number, say};
 use disk::Place;
-use libc::STDOUT_FILENO;
 use lists::byte_at;
 
 fn letter(b: u8) {

@@ -1,4 +1,6 @@
 // What the program writes, to a descriptor: text, numbers, locations and refusals here, names in `names`, JSON in `json`. `sums` has what its parts count with.
+#![tactic(auto)]
+
 pub mod json;
 pub mod names;
 pub mod sums;
@@ -6,7 +8,16 @@ pub mod sums;
 ghost use Rattle.std.specs.Prelude.{◌≤◌};
 
 use disk::{Place, Sector, Track, sector_start};
-use libc::{STDERR_FILENO, STDOUT_FILENO};
+use std::fmt;
+use std::fmt::Write;
+use std::io::Error;
+
+// Standard input, standard output and standard error, by their descriptors.
+pub const STDIN_FILENO: i32 = 0;
+
+pub const STDOUT_FILENO: i32 = 1;
+
+pub const STDERR_FILENO: i32 = 2;
 
 // The exit statuses.
 pub const GOOD: u8 = 0;
@@ -27,14 +38,54 @@ pub fn tell(s: &[u8]) {
     text(STDERR_FILENO, s);
 }
 
-// The end of what a command prints: its exit status, 0, or 2 where that cannot be written, which is said.
-pub fn finish(s: &[u8]) -> u8 {
-    if io::write_all(STDOUT_FILENO, s) {
-        return GOOD;
+// What an error says.
+#[derive(Drop)]
+struct Reason {
+    letters: [u8; 128],
+    length: usize,
+}
+
+impl Write for Reason {
+    fn write_str(&mut self, s: &str) -> fmt::Result {
+        lists::copy_at(s.as_bytes(), &mut self.letters, self.length);
+        self.length = sums::after(self.length, s.len());
+        Ok(())
     }
-    tell(b"linefiles: cannot write to standard output");
-    os::fail(b"");
-    TROUBLE
+}
+
+// How much of what an error says is the system's reason: behind it stands the reason's number.
+fn reason_length(s: &[u8]) -> usize {
+    for k in 0..128usize {
+        if lists::same(lists::part(s, k, 11), b" (os error ") {
+            return k;
+        }
+    }
+    s.len()
+}
+
+// The end of a line that says what could not be done: the system's reason.
+pub fn fail(e: Error) {
+    let mut reason = Reason {
+        letters: [0; 128],
+        length: 0,
+    };
+    let _ = write!(reason, "{e}");
+    let said = lists::part(&reason.letters, 0, reason.length);
+    tell(b": ");
+    tell(lists::part(said, 0, reason_length(said)));
+    tell(b"\n");
+}
+
+// The end of what a command prints: its exit status, 0, or 2 where that cannot be written, which is said.
+pub fn finish(rt: &HostRuntime, s: &[u8]) -> u8 {
+    match rt.write_all(s) {
+        Ok(()) => GOOD,
+        Err(e) => {
+            tell(b"linefiles: cannot write to standard output");
+            fail(e);
+            TROUBLE
+        },
+    }
 }
 
 pub fn number(fd: i32, n: u64) {

@@ -1,8 +1,7 @@
 // Names and paths: as they are shown, and as they are cut, which are the 30 name bytes.
 ghost use Rattle.std.specs.Prelude.{◌≤◌};
 
-use crate::{number, text};
-use libc::STDOUT_FILENO;
+use crate::{STDOUT_FILENO, number, text};
 use lists::byte_at;
 
 // The byte is one that a terminal may act on, or the backslash. Above `top` it is taken for one.

@@ -1,11 +1,13 @@
 // The two sides that save to one disk, as the program names them: who calls, and what is said of a side's names, sectors and limit.
+#![tactic(auto)]
+
 use arguments::{LIMIT, SIDE, SURVEY_OFFICE, has_option, limit_said, side_said};
-use libc::STDERR_FILENO;
+use screen::STDERR_FILENO;
 use screen::{count, names, number, tell, text, text_number};
 use sides::{Side, belongs_to, count_held};
 
 // Who calls: a side or none, with a limit of sectors or none.
-#[derive(Drop)]
+#[derive(Clone, Copy)]
 pub struct Caller {
     pub sided: bool,
     pub side: Side,
@@ -21,12 +23,12 @@ fn side_numbered(number: u8) -> Side {
 }
 
 // The caller that the options say.
-pub fn caller_said(first: usize) -> Caller {
-    let n = limit_said(first);
+pub fn caller_said(rt: &HostRuntime, first: usize) -> Caller {
+    let n = limit_said(rt, first);
     Caller {
-        sided: has_option(first, SIDE),
-        side: side_numbered(side_said(first)),
-        limited: has_option(first, LIMIT),
+        sided: has_option(rt, first, SIDE),
+        side: side_numbered(side_said(rt, first)),
+        limited: has_option(rt, first, LIMIT),
         limit: n.value,
     }
 }

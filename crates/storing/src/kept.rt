@@ -2,9 +2,12 @@
 // it does not know them.
 use lists::byte_at;
 use screen::sums::after;
+use std::env::Env;
+use std::fs::{File, Permissions};
+use std::os::unix::fs::{PermissionsExt, fchown};
 
 // A number of 32 bits, and where its digits end; none where there is no digit.
-#[derive(Drop)]
+#[derive(Clone, Copy)]
 struct Digits {
     some: bool,
     value: u64,
@@ -48,10 +51,18 @@ fn digits_at(s: &[u8], i: usize, base: u8) -> Digits {
     d
 }
 
-// Gives the file at fd the mode and the owner that argument 2 says; where they may not be given, it keeps its own.
-pub fn keep(fd: i32) {
+// Puts argument 2 into w: its length, and 0 where there is none.
+fn put_said(rt: &HostRuntime, w: &mut [u8]) -> usize {
+    match rt.arg(2, w) {
+        Ok(n) => n,
+        Err(_) => 0,
+    }
+}
+
+// Gives a file the mode and the owner that argument 2 says; where they may not be given, it keeps its own.
+pub fn keep(rt: &HostRuntime, file: &File) {
     let mut w = [0u8; 64];
-    let n = os::arg(2, &mut w);
+    let n = put_said(rt, &mut w);
     let s = lists::part(&w, 0, n);
     if !lists::same(lists::part(s, 0, 5), b"--as=") {
         return;
@@ -60,11 +71,11 @@ pub fn keep(fd: i32) {
     let owner = digits_at(s, after(mode.end, 1), 10);
     let group = digits_at(s, after(owner.end, 1), 10);
     if mode.some & (owner.some & group.some) {
-        libc::fchown(
-            fd,
-            (owner.value % 4294967296) as u32,
-            (group.value % 4294967296) as u32,
+        let _ = fchown(
+            file,
+            Some((owner.value % 4294967296) as u32),
+            Some((group.value % 4294967296) as u32),
         );
-        libc::fchmod(fd, (mode.value % 4096) as u32);
+        let _ = file.set_permissions(Permissions::from_mode((mode.value % 4096) as u32));
     }
 }

@@ -1,72 +1,86 @@
 // What stands at a path.
-ghost use Rattle.libc.specs.Io.{Ended};
-
-use libc::{F_OK, PATH_MAX};
+use crate::naming::{of_folder, of_own, text_of};
 use lists::byte_at;
 use screen::sums::after;
-
-// The path with zeros behind it, as C reads it.
-fn ended(path: &[u8]) -> [u8; PATH_MAX]
-    ensures { Ended result }
-{
-    let mut p = io::buffer();
-    lists::copy_at(path, &mut p, 0);
-    p[4095] = 0;
-    p
-}
+use std::fs;
+use std::io::Error;
 
 // A folder has an entry for itself.
-pub fn is_folder(path: &[u8]) -> bool {
-    let mut itself = io::buffer();
+pub fn is_folder(rt: &HostRuntime, path: &[u8]) -> bool {
     let n = path.len();
     if (n == 0) | (4000 < n) {
         return false;
     }
+    let mut space = io::buffer();
+    match of_own(rt, path, &mut space) {
+        Ok(name) => has_itself(rt, name.as_bytes()),
+        Err(_) => false,
+    }
+}
+
+fn has_itself(rt: &HostRuntime, path: &[u8]) -> bool {
+    let mut itself = io::buffer();
+    let n = path.len();
     lists::copy_at(path, &mut itself, 0);
     lists::copy_at(b"/.", &mut itself, n);
-    let p = ended(lists::part(&itself, 0, after(n, 2)));
-    libc::access(&p, F_OK) == 0
+    match text_of(lists::part(&itself, 0, after(n, 2))) {
+        Ok(name) => fs::metadata(rt, name).is_ok(),
+        Err(_) => false,
+    }
 }
 
 // A link, whether or not it leads to a file.
-pub fn is_link(path: &[u8]) -> bool {
-    let mut text = [0u8; 1];
-    let p = ended(path);
-    0 <= libc::readlink(&p, &mut text)
+pub fn is_link(rt: &HostRuntime, path: &[u8]) -> bool {
+    let mut space = io::buffer();
+    match of_folder(rt, path, &mut space) {
+        Ok(name) => leads(rt, name),
+        Err(_) => false,
+    }
 }
 
-// Puts the path to which a link leads, from the link's own folder on, into `to`: its length; 0 where the path is no link.
-fn link_path(path: &[u8], to: &mut [u8]) -> usize {
-    let mut text = io::buffer();
-    let p = ended(path);
-    let got = libc::readlink(&p, &mut text);
-    if got <= 0 {
-        return 0;
+fn leads(rt: &HostRuntime, name: &str) -> bool {
+    match fs::symlink_metadata(rt, name) {
+        Ok(found) => found.is_symlink(),
+        Err(_) => false,
     }
-    let k = io::count(got, &text);
+}
+
+// Puts the path to which the text of a link leads, from the link's own folder on, into `to`: its length.
+fn put_link(path: &[u8], text: &[u8], to: &mut [u8]) -> usize {
     let mut n = folder_length(path);
-    if byte_at(&text, 0) == b'/' {
+    if byte_at(text, 0) == b'/' {
         n = 0;
     }
     lists::copy_at(lists::part(path, 0, n), to, 0);
-    lists::copy_at(lists::part(&text, 0, k), to, n);
-    after(n, k)
+    lists::copy_at(text, to, n);
+    after(n, text.len())
+}
+
+// Puts the path to which a link leads, from the link's own folder on, into `to`: its length; 0 where the path is no link.
+fn link_path(rt: &HostRuntime, path: &[u8], to: &mut [u8]) -> Result<usize, Error> {
+    let mut space = io::buffer();
+    let name = of_folder(rt, path, &mut space)?;
+    if !leads(rt, name) {
+        return Ok(0);
+    }
+    let text = fs::read_link(rt, name)?;
+    Ok(put_link(path, text.as_str().as_bytes(), to))
 }
 
 // Puts the path of the file to which a path leads into `to`, links being followed, 40 at most: its length.
-pub fn file_path(path: &[u8], to: &mut [u8]) -> usize {
+pub fn file_path(rt: &HostRuntime, path: &[u8], to: &mut [u8]) -> Result<usize, Error> {
     lists::copy_at(path, to, 0);
     let mut n = path.len();
     for k in 0..40u8 {
         let mut next = io::buffer();
-        let m = link_path(lists::part(to, 0, n), &mut next);
+        let m = link_path(rt, lists::part(to, 0, n), &mut next)?;
         if m == 0 {
-            return n;
+            return Ok(n);
         }
         lists::copy_at(lists::part(&next, 0, m), to, 0);
         n = m;
     }
-    n
+    Ok(n)
 }
 
 // How much of a path is its folder, the last stroke with it.

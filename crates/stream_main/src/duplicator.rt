@@ -40,7 +40,7 @@ fn draw_gap(gap: &mut [u8], lot: u64) -> u64 {
 }
 
 // Where the stream ends so far, and the lot.
-#[derive(Drop)]
+#[derive(Clone, Copy)]
 struct Laid {
     used: usize,
     lot: u64,

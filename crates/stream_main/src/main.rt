@@ -7,6 +7,8 @@
 //     12 KK                show what nibblize answers; if it is not refused, it is the stream
 //     16 NN NN JJ JJ       copy the 416 bytes of block NNNN of the stream over block JJJJ
 //     17 SS SS GG NN NN    of a stream that nibblize wrote, the 560 sector writings in an order drawn from SSSS, NNNN of them again, 560 at most, with gaps of 0 to GG bytes
+#![tactic(auto)]
+
 mod duplicator;
 
 ghost use Rattle.std.specs.Prelude.{◌<◌};

@@ -1,11 +1,12 @@
 // What is said of a nibble stream: what it is taken by, and the place where denibblize met a refusal. The library has judged the stream before.
+#![tactic(auto)]
+
 use fields::{Edition, FieldPair, dos_sector, find_mark, parse_nib_sector, per_track};
-use libc::STDERR_FILENO;
 use lists::byte_at;
 use nibble::{data_sum, five_three};
 use outcome::{ABSENT, ADDRESS_SUM, DATA_SUM, Handed, STRANGER, TRAY_SHORT};
 use screen::sums::{after, more, poke};
-use screen::{REFUSED, count, number, refusal, say, tell, text, text_number};
+use screen::{REFUSED, STDERR_FILENO, count, number, refusal, say, tell, text, text_number};
 
 // The last byte of an address mark.
 fn mark_of(ed: Edition) -> u8 {

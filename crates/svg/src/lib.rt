@@ -2,6 +2,8 @@
 // stands alone: no script, and nothing from elsewhere.
 // A sector takes 504 bytes at most, with 180 for a name; an arrow 67, and there are at most 5,041; a file of the legend 457, and 120 are shown; a path of 4,096 bytes
 // 25,100; all else 8,000. So the whole has less than 800,000 bytes.
+#![tactic(auto)]
+
 mod legend;
 
 use cells::{CELLS, LETTERS, MARKS, columns};

@@ -8,6 +8,8 @@
 //     11 KK          show the catalog, and the bytes of entry 0 and of the last entry named A
 //     13 KK          write the archive of the disk; if it is not refused, it is the archive at hand
 //     14 KK          check the archive at hand
+#![tactic(auto)]
+
 use disk::{Sector, Track};
 use files::PAIR_BYTES;
 use outcome::Handed;

@@ -1,13 +1,19 @@
 // What the trial programs share: the steps of a script, numbers made of bytes, pokes, and what is printed.
 // It is proved to end and never to trap, and beyond that only the ranges that the programs need.
+#![tactic(auto)]
+
 ghost use Rattle.std.specs.Prelude.{◌<◌};
 
-use libc::{STDIN_FILENO, STDOUT_FILENO};
 use lists::{byte_at, part};
 use outcome::{Handed, Word};
 
+// Standard input and standard output, by their descriptors.
+pub const STDIN_FILENO: i32 = 0;
+
+pub const STDOUT_FILENO: i32 = 1;
+
 // A step of a script: a line of six bytes in hexadecimal. `more` is false where no whole line is left.
-#[derive(Drop)]
+#[derive(Clone, Copy)]
 pub struct Step {
     pub more: bool,
     pub bytes: [u8; 6],

@@ -1,5 +1,7 @@
 // What each sector of a disk serves, by the chains: how many holders it has, and the first of them. The library has followed the chains before; here nothing is decided.
 // A sector has 7 numbers: how many hold it, and one for each of the first 6. That of a holder is its role, and 16 times the number of its file.
+#![tactic(auto)]
+
 use catalog::{entry_list, entry_start, first_page, last_page, valid_file};
 use disk::{Place, link_of, sectors_of};
 use files::{MAX_PAIRS, last_list, parse_track_sector_pair};

@@ -4,6 +4,8 @@
 //     FE TT SS       show the window on DOS sector SS of track TT of the flat disk
 //     FD TT SS       the same, the disk being taken for the unrolled image of a stream
 //     FC             show the table of the disk without its last byte
+#![tactic(auto)]
+
 use disk::{Sector, Track, VolumeTableOfContents};
 use trial::{print, print_line, refusal_line};
 

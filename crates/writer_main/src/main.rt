@@ -11,6 +11,8 @@
 //     F9 TT SS VV    put VV at every byte of the sector
 //     F8 TT SS VV    put VV, VV + 1, VV + 2 and so on at the bytes of the sector
 //     F7             a disk of zeros
+#![tactic(auto)]
+
 use lists::part;
 use trial::{place_16, poke, print, print_line, refusal_line, untouched};
 

@@ -1,0 +1,10 @@
+use Prim.Native.Nat.{◌-◌, ◌≤◌}
+use mathlib.Core.Path.{◌≡◌}
+use lib.ListN.{length}
+use Rattle.arrows.proofs.list_arrows.Given as goal
+
+abbrev pub invariant-loop-k : goal.invariant-loop-k
+invariant-loop-k l = (l.k ≤ 560) × ((length l.out ≡ length l.initial.out) × (length l.seen ≡ length l.initial.seen))
+
+abbrev pub decreases-loop-k : goal.decreases-loop-k
+decreases-loop-k l = 560 - l.k
