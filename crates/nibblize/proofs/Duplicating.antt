@@ -1,4 +1,4 @@
--- The claim of Req 14: each stream made of the 560 sector writings of one disk unrolls to that disk. Assumes nothing.
+-- The claim of Req 14: each stream made of the 560 sector writings of one disk unrolls_made to that disk. Assumes nothing.
 use mathlib.Core.Path.{◌≡◌, refl, ap, ◌∙◌}
 use mathlib.Core.List.{List, ◌∷◌, ◌++◌, map-append}
 use Prim.Native.Nat.{ℕ, ◌<◌}
@@ -14,7 +14,7 @@ use Rattle.fields.specs.declared.Edition.TheVariants.{Sixteen}
 use Rattle.stream.specs.Stream.{Denibblized}
 use Rattle.nibblize.specs.Layouts.{Piece, Layout, stream_of, order_of, Spaced, Order, Covers, MadeOf}
 use Rattle.nibblize.specs.Claims.{Flat, Duplicating}
-use Rattle.nibblize.proofs.Unrolls.{length_laid, unrolls}
+use Rattle.nibblize.proofs.Unrolls.{length_laid, unrolls_made}
 use Rattle.nibblize.proofs.Written.{nibblized_made, made_denibblizes, written_made}
 
 -- too little space is the one refusal
@@ -22,7 +22,7 @@ made_refused : (d s : List ℕ) → Flat d → MadeOf d s → (before after : Li
     → length before < 143360 → (r ≡ refused_with 12) × (after ≡ before)
 made_refused d s (l, b) m before after r h short =
     let t = lt-leb (length d) (length before) (omega arith) in
-    (h.answer ∙ rw (unrolls d s (l, b) m, t) refl, h.left ∙ rw (unrolls d s (l, b) m, t) refl)
+    (h.answer ∙ rw (unrolls_made d s (l, b) m, t) refl, h.left ∙ rw (unrolls_made d s (l, b) m, t) refl)
 
 -- 560 different numbers below 560 are all of them
 order_covers : (ks : List ℕ) → Order ks → Covers ks
@@ -41,7 +41,7 @@ repeated xs ys x h c =
 pub duplicating : Duplicating
 duplicating =
     record {
-      image_is = unrolls;
+      image_is = unrolls_made;
       denibblizes = made_denibblizes;
       refuses = made_refused;
       own = nibblized_made;

@@ -1,6 +1,6 @@
 -- A stream of the sector writings of one disk unrolls to that disk: any order, any gaps free of D5h, repetitions (Req 14). Assumes nothing.
 use mathlib.Core.Path.{◌≡◌, refl, ap, ◌∙◌}
-use mathlib.Core.Logic.{⊎_elim}
+use mathlib.Core.Logic.{⊎_elim, inl, inr}
 use mathlib.Core.Bool.{Bool, true, false, cond, ◌&&◌, and-eq-true_iff}
 use mathlib.Core.List.{List, [], ◌∷◌, map}
 use Prim.Native.Nat.{ℕ, zero, suc, ◌+◌, ◌*◌, ◌/◌, ◌%◌, ◌<◌, ◌≤◌}
@@ -13,7 +13,7 @@ use Rattle.lists.specs.Every.{Every}
 use Rattle.lists.specs.Every
 use Rattle.lists.specs.Fill.{Bytes}
 use Rattle.lists.specs.Select.{all, any, among}
-use Rattle.lists.proofs.Among.{among_cases, unlike}
+use Rattle.lists.proofs.Among.{among_cases, among_here, among_there, unlike}
 use Rattle.lists.proofs.Bounds.{bytes_take, bytes_drop}
 use Rattle.lists.proofs.Every.{every_both, map_every}
 use Rattle.disk.specs.Disk.{place, bytes_of}
@@ -30,6 +30,7 @@ use Rattle.stream.specs.Stream.{sum_ok, sums_ok, same_key, firsts, is_stranger, 
 use Rattle.stream.proofs.Sizes.{Sized}
 use Rattle.stream.proofs.Joins.{each_joins}
 use Rattle.nibblize.specs.Nibblize.{held}
+use Rattle.nibblize.specs.Pieces.{Piece as Keyed, laid as keyed_laid, Sound as KeyedSound, Has}
 use Rattle.nibblize.specs.Layouts.{Piece, writing_of, laid, length_of_parts, order_of, FreeGaps, Covers, MadeOf}
 use Rattle.nibblize.specs.Claims.{Flat}
 use Rattle.nibblize.proofs.Sectors.{fields_spaced, length_sector}
@@ -159,7 +160,41 @@ module _ (v : ℕ) (d : List ℕ) where
         (each_joins (λ k. bytes_at Sixteen (k / 16) (k % 16) (map field_of ps)) (λ k. k) 560 d l (found_at ps c))
 
 -- a stream so made unrolls to the disk
-pub unrolls : (d s : List ℕ) → Flat d → MadeOf d s → image Sixteen s ≡ given d
-unrolls d s (l, b) (y, g, c, e) =
+pub unrolls_made : (d s : List ℕ) → Flat d → MadeOf d s → image Sixteen s ≡ given d
+unrolls_made d s (l, b) (y, g, c, e) =
     ap (image Sixteen) e
     ∙ unrolls_laid y.volume d g.byte l b y.pieces y.behind (every_both g.gaps (map_every (λ (x : Piece). x.number) y.pieces c.numbers)) g.last c
+
+-- ---- the same of pieces with their keys
+-- a piece, as a duplicator's
+turned : Keyed → Piece
+turned x = record { before = x.gap; number = x.key; between = x.middle }
+
+-- they make the same stream
+turned_laid : (v : ℕ) (d : List ℕ) (ps : List Keyed) (last : List ℕ) → keyed_laid v d ps last ≡ laid v d (map turned ps) last
+unfolding keyed_laid laid writing_of turned
+turned_laid v d [] last = refl
+turned_laid v d (x ∷ ps) last = rw (turned_laid v d ps last) refl
+
+turned_sound : (ps : List Keyed) → KeyedSound ps → Every Sound (map turned ps)
+unfolding turned
+turned_sound [] s = Every.none
+turned_sound (x ∷ ps) s = Every.more ((s.0, s.1), s.2) (turned_sound ps s.3)
+
+turned_numbers : (ps : List Keyed) → KeyedSound ps → Every (λ (k : ℕ). k < 560) (order_of (map turned ps))
+unfolding turned
+turned_numbers [] s = Every.none
+turned_numbers (x ∷ ps) s = Every.more s.2 (turned_numbers ps s.3)
+
+turned_has : (k : ℕ) (ps : List Keyed) → Has k ps → among k (order_of (map turned ps)) ≡ true
+unfolding turned
+turned_has k [] m = absurd m
+turned_has k (x ∷ ps) (inl e) = rw e (among_here k (order_of (map turned ps)))
+turned_has k (x ∷ ps) (inr m) = among_there k x.key (order_of (map turned ps)) (turned_has k ps m)
+
+-- every sector is among the pieces: the stream unrolls to d
+pub unrolls : (v : ℕ) (d : List ℕ) → v < 256 → length d ≡ 143360 → Bytes d → (ps : List Keyed) (last : List ℕ) → KeyedSound ps → Free last
+    → ((k : ℕ) → k < 560 → Has k ps) → image Sixteen (keyed_laid v d ps last) ≡ given d
+unrolls v d hv l b ps last s e all =
+    rw (turned_laid v d ps last)
+    (unrolls_laid v d hv l b (map turned ps) last (turned_sound ps s) e (record { each = λ k h. turned_has k ps (all k h); numbers = turned_numbers ps s }))

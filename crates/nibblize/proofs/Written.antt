@@ -1,4 +1,4 @@
--- What the nibble writer writes is made of the disk's sector writings, so it unrolls to that disk. Assumes nothing.
+-- What the nibble writer writes is made of the disk's sector writings, so it unrolls_made to that disk. Assumes nothing.
 use mathlib.Core.Path.{◌≡◌, refl, sym, ap, ◌∙◌}
 use mathlib.Core.List.{List, [], ◌∷◌, ◌++◌}
 use Prim.Native.Nat.{ℕ, zero, suc, ◌/◌, ◌%◌, ◌<◌, ◌≤◌}
@@ -27,7 +27,7 @@ use Rattle.nibblize.specs.Layouts.{Piece, writing_of, laid, order_of, FreeGaps, 
 use Rattle.nibblize.specs.Claims.{Flat}
 use Rattle.nibblize.proofs.Gaps.{free_replicate}
 use Rattle.nibblize.proofs.Sectors.{length_sector}
-use Rattle.nibblize.proofs.Unrolls.{unrolls}
+use Rattle.nibblize.proofs.Unrolls.{unrolls_made}
 
 -- the writer's pieces: the sectors h 0, h 1, .., h (n - 1), behind 48 of FFh each
 row : (ℕ → ℕ) → ℕ → List Piece
@@ -89,16 +89,16 @@ nibblized_made d s b e =
     let q : s ≡ laid v d ps [] = cc (nibblized_is d (nibblized_sized d s e), row_laid v d (λ k. k) 560) in
     (record { volume = v; pieces = ps; behind = [] }, record { byte = b _; gaps = row_free (λ k. k) 560; last = free_nil }, covers, q)
 
--- .. so it unrolls to the disk again
-pub nibblized_unrolls : (d s : List ℕ) → Bytes d → nibblized d ≡ given s → image Sixteen s ≡ given d
-nibblized_unrolls d s b e = unrolls d s (nibblized_sized d s e, b) (nibblized_made d s b e)
+-- .. so it unrolls_made to the disk again
+pub nibblized_unrolls : (d s : List ℕ) → length d ≡ 143360 → Bytes d → nibblized d ≡ given s → image Sixteen s ≡ given d
+nibblized_unrolls d s l b e = unrolls_made d s (l, b) (nibblized_made d s b e)
 
 -- ---- the same of the calls
 -- from a stream so made, into enough space, denibblize hands the disk over
 pub made_denibblizes : (d s : List ℕ) → Flat d → MadeOf d s → (before after : List ℕ) (r : Handed) → Denibblized Sixteen s before after r
     → 143360 ≤ length before → (r ≡ accepted_with 143360) × (after ≡ d ++ drop 143360 before)
 made_denibblizes d s (l, b) m before after r h room =
-    let i : image Sixteen s ≡ given d = unrolls d s (l, b) m in
+    let i : image Sixteen s ≡ given d = unrolls_made d s (l, b) m in
     (h.answer ∙ ap answer_of (handed_fits (image Sixteen s) before i (omega arith)) ∙ ap accepted_with l, hands_left d h i (omega arith) ∙ ap (λ (n : ℕ). d ++ drop n before) l)
 
 -- what a call of nibblize accepted and wrote is so made

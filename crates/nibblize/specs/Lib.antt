@@ -1,3 +1,4 @@
 pub mod Nibblize
+pub mod Pieces
 pub mod Layouts
 pub mod Claims
