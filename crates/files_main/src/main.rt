@@ -14,11 +14,10 @@
 #![tactic(auto)]
 
 use disk::{Sector, Track};
-use trial::STDOUT_FILENO;
 use lists::part;
 use outcome::Handed;
 use pairs::TrackSectorPair;
-use trial::{handed_line, number, print, print_line, print_number};
+use trial::{STDOUT_FILENO, handed_line, number, print, print_line, print_number};
 
 // The first 80 bytes that were handed over, and the byte behind all of them.
 fn handed_lines(text: &[u8], h: Handed, space: &[u8]) {

@@ -4,10 +4,9 @@
 #![tactic(auto)]
 
 use disk::VolumeTableOfContents;
-use trial::STDIN_FILENO;
 use lists::{byte_at, part};
 use recorded::{answer_line, asks, behind, entry_lines, lay, line_end, line_from, name_of};
-use trial::{print, print_decimals, print_hex, print_line};
+use trial::{STDIN_FILENO, print, print_decimals, print_hex, print_line};
 
 // The direction as the byte of the disk; 128 for what is none.
 fn direction_byte(n: i8) -> u8 {

@@ -10,13 +10,12 @@
 #![tactic(auto)]
 
 use disk::{Place, Sector, Track};
-use trial::STDIN_FILENO;
 use lists::{byte_at, part, word_at};
 use recorded::{
     answer_line, asks, behind, bytes_of, content, count, digits_of, lay, line_end, line_from,
     place_of,
 };
-use trial::{print, print_hex, print_line, print_number};
+use trial::{STDIN_FILENO, print, print_hex, print_line, print_number};
 
 fn show_sector(nibbles: &[u8], key: [u8; 3], space: &mut [u8]) {
     print(b"sector");

@@ -2,8 +2,7 @@
 #![tactic(auto)]
 
 use arguments::{LIMIT, SIDE, SURVEY_OFFICE, has_option, limit_said, side_said};
-use screen::STDERR_FILENO;
-use screen::{count, names, number, tell, text, text_number};
+use screen::{STDERR_FILENO, count, names, number, tell, text, text_number};
 use sides::{Side, belongs_to, count_held};
 
 // Who calls: a side or none, with a limit of sectors or none.
