@@ -1,6 +1,5 @@
 // An archive that is stepped through entry by entry, without a copy: document 01, "Return" ("A display steps through a return entry by entry without copying
-// it"). The borrow checker does not cover a struct that holds a slice, so the functions on `Reader` are proved by hand: they call `look_at`, and store.
-// (The Rust has none.)
+// it"). (The Rust has none.)
 #![tactic(auto)]
 
 ghost use Rattle.std.specs.Prelude.{◌≡◌};
@@ -56,7 +55,7 @@ impl<'a> Reader<'a> {
     }
 }
 
-// From plain parameters: whoever calls this needs no proof by hand.
+// From plain parameters.
 pub fn entry_from(archive: &[u8], block: u16) -> Entry
     ensures { result ≡ entry_step archive.now block }
 {

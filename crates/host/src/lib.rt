@@ -77,7 +77,7 @@ pub extern "C" fn dos33_pairs(
     tell(answer, length)
 }
 
-// The same in a run of structs, whose number goes behind `length`. 1, 3, 12. Proved by hand, as `pairs::pair_run` is: the two lent places are passed on.
+// The same in a run of structs, whose number goes behind `length`. 1, 3, 12.
 #[unsafe(no_mangle)]
 pub extern "C" fn dos33_pair_run(
     disk: &[u8],

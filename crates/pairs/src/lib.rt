@@ -1,6 +1,5 @@
 // The pairs of a track/sector list in a lent run of structs: document 01, "Track/sector list" ("They are handed over in a lent run of pairs"). (In the Rust:
-// TrackSectorPair and TrackSectorList of catalog.rs.) The borrow checker does not cover a slice of structs, so `pair_run` is proved by hand: it calls the
-// functions above it, and stores. `run_of_four`, which lends a run of its own, is proved by hand too; whoever calls it needs no such proof.
+// TrackSectorPair and TrackSectorList of catalog.rs.) `pair_run` calls the functions above it, and stores; `run_of_four` lends a run of its own.
 #![tactic(auto)]
 
 ghost use Rattle.std.specs.Prelude.{◌≡◌};
