@@ -1,6 +1,6 @@
 // Makes the static library with `rt`, and links it as `dos33`.
 //
-// `rt staticlib host` names it after its crate, libhost.a; here it is libdos33.a.
+// `rt lib` in crates/host names it after its crate, libhost.a; here it is libdos33.a.
 // DOS33_LIB_DIR names a folder with a library that is made already, under either name; `rt` is not asked for then.
 use std::env;
 use std::fs;
@@ -16,7 +16,17 @@ fn stop(message: &str) -> ! {
     exit(1)
 }
 
-// The library, made by `rt staticlib host` in the repository's top folder.
+// What the library is made of: the parts of each crate, and not what `rt` keeps beside them.
+fn parts(top: &Path) -> Vec<PathBuf> {
+    let crates = fs::read_dir(top.join("crates")).map(|d| d.flatten().map(|e| e.path()).collect());
+    let mut found = vec![top.join("crates.txt")];
+    for folder in crates.unwrap_or_else(|_| Vec::new()) {
+        found.extend(["src", "specs", "proofs"].map(|p| folder.join(p)).into_iter().filter(|p| p.is_dir()));
+    }
+    found
+}
+
+// The library, made by `rt lib` in the folder of the crate `host`.
 fn made(top: &Path) -> PathBuf {
     if !top.join("crates.txt").is_file() {
         stop(&format!(
@@ -25,29 +35,25 @@ fn made(top: &Path) -> PathBuf {
             top.display()
         ));
     }
-    println!("cargo:rerun-if-changed={}", top.join("crates").display());
-    println!(
-        "cargo:rerun-if-changed={}",
-        top.join("crates.txt").display()
-    );
-    let answer = Command::new("rt")
-        .args(["staticlib", "host"])
-        .current_dir(top)
-        .output();
+    for part in parts(top) {
+        println!("cargo:rerun-if-changed={}", part.display());
+    }
+    let folder = top.join("crates").join("host");
+    let answer = Command::new("rt").arg("lib").current_dir(&folder).output();
     match answer {
         Err(e) if e.kind() == ErrorKind::NotFound => stop(&format!(
-            "the program `rt` of the Rattle kit is not on the PATH. It makes {MADE} (`rt staticlib host`). \
+            "the program `rt` of the Rattle kit is not on the PATH. It makes {MADE} (`rt lib` in crates/host). \
              Install the kit, or set DOS33_LIB_DIR to a folder with {OURS} or {MADE}."
         )),
-        Err(e) => stop(&format!("`rt staticlib host` could not be started: {e}")),
+        Err(e) => stop(&format!("`rt lib` could not be started: {e}")),
         Ok(o) if !o.status.success() => stop(&format!(
-            "`rt staticlib host` failed in {} ({}):\n{}{}",
-            top.display(),
+            "`rt lib` failed in {} ({}):\n{}{}",
+            folder.display(),
             o.status,
             String::from_utf8_lossy(&o.stdout),
             String::from_utf8_lossy(&o.stderr)
         )),
-        Ok(_) => top.join("target").join("staticlib").join(MADE),
+        Ok(_) => folder.join("out").join(MADE),
     }
 }
 
@@ -64,7 +70,7 @@ fn handed(folder: &Path) -> PathBuf {
         }
         None => stop(&format!(
             "{} (DOS33_LIB_DIR) has neither {OURS} nor {MADE}. \
-             `rt staticlib host` at the repository's top makes target/staticlib/{MADE}.",
+             `rt lib` in crates/host makes crates/host/out/{MADE}.",
             folder.display()
         )),
     }

@@ -1,6 +1,6 @@
 /*
  * Apple DOS 3.3 and DOS 3.2 disks, nibble streams and archives. Link libdos33.a: it is the library
- * that `rt staticlib host` makes, target/staticlib/libhost.a, under this name.
+ * that `rt lib` in crates/host makes, crates/host/out/libhost.a, under this name.
  *
  * A flat disk is 35 tracks of sectors of 256 bytes. Its length alone says how many a track has:
  * 143,360 bytes are 16 (DOS 3.3), 116,480 bytes are 13 (DOS 3.2). Every function that takes a flat

@@ -1,11 +1,12 @@
 #!/usr/bin/env bash
-# What .ci/run installs, and when: the script itself in a folder of its own, with stand-ins for rt, cargo, cc, id and apt-get. A second or two.
+# What .ci/run installs, and when, and that it fails with the gate and where edits are bad: the script itself in a folder of its own, with stand-ins for rt, cargo, cc,
+# id and apt-get. A second or two.
 set -u
 cd "$(dirname "$0")/.." || exit 2
 work=$(mktemp -d) || exit 2
 trap 'rm -rf "$work"' EXIT
 top=$work/top
-mkdir -p "$work/bin" "$top/.ci" "$top/test" "$top/host/differential" "$top/crates/replay" "$top/crates/replay_parts" "$work/source/src/disk_format/apple"
+mkdir -p "$work/bin" "$top/.ci" "$top/test" "$top/host/differential" "$top"/crates/{host,replay,replay_parts} "$work/source/src/disk_format/apple"
 touch "$work/source/src/disk_format/apple/disk.rs" "$top/test/refused.sh" "$top/test/ci.sh" "$top/host/outside.sh" "$top"/crates/{replay,replay_parts}/{stdin,stdout}
 sed "s|^registry=.*|registry=$work/registry|" .ci/run >"$top/.ci/run"
 
@@ -69,5 +70,22 @@ for word in "CI=true" "DOS33_INSTALL=1"; do
     expect "without apt-get" [ "$calls" -eq 0 ]
     expect "run" prints '^passed: differential run$'
 done
-echo "what .ci/run installs: $tries looked at, $wrong wrong"
+# gate WHAT LAST LINES..: the script where rt ci prints these lines and ends with that status; its own status is not 0, and its last line is LAST.
+gate() {
+    local status
+    said=$1
+    stand_in rt "[ \"\$1\" = ci ] || exit 0; printf '%s\\n' $(printf "'%s' " "${@:4}"); exit $3"
+    out=$(env -u CI -u DOS33_INSTALL PATH="$work/bin:$PATH" bash "$top/.ci/run" 2>&1)
+    status=$?
+    expect "a status" [ "$status" -ne 0 ]
+    expect "the last line" [ "$(printf '%s\n' "$out" | tail -n 1)" = "$2" ]
+    expect "without the rest" silent '^== '
+}
+ok='rt: ok; handles allowed: none; must-fail edits: 3 refused'
+gate "bad edits" "3 passed, 1 failed" 0 "$ok, 2 bad; every proof was done" "3 passed, 0 failed"
+gate "a crate that failed" "2 passed, 1 failed" 1 "2 passed, 1 failed"
+gate "no last line" "0 passed, 1 failed" 1 "$ok"
+gate "a status alone" "3 passed, 1 failed" 1 "$ok; every proof was done" "3 passed, 0 failed"
+
+echo "what .ci/run installs, and when it fails: $tries looked at, $wrong wrong"
 [ "$wrong" -eq 0 ]

@@ -1,5 +1,5 @@
 /* Saves, lists and deletes on an empty disk, also by two sides. From host/, with the library made:
-       cc -I . examples/saving.c ../target/staticlib/libhost.a -o saving && ./saving
+       cc -I . examples/saving.c ../crates/host/out/libhost.a -o saving && ./saving
    With the name of a file it keeps the disk there. What it prints stands in saving.txt, and the tests hold it to that. */
 #include "dos33.h"
 
