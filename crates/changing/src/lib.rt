@@ -7,12 +7,14 @@ use address::address_of;
 use arguments::is_dash;
 use arguments::letters::unescape;
 use disk::{Place, Sector, Track};
-use screen::{STDERR_FILENO, STDOUT_FILENO};
 use lists::byte_at;
 use outcome::{NAME_TAKEN, NO_SPACE, NOT_CLEAN, OFF_SIZE, OTHER_SIDE, OVER_LIMIT, UNWRITABLE_NAME};
 use saving::{data_for, lists_for};
 use screen::sums::more;
-use screen::{GOOD, REFUSED, TROUBLE, count, finish, names, refusal, tell, text, text_number};
+use screen::{
+    GOOD, REFUSED, STDERR_FILENO, STDOUT_FILENO, TROUBLE, count, finish, names, refusal, tell,
+    text, text_number,
+};
 use side_report::{Caller, caller_said, say_held, tell_limit, tell_owner};
 use storing::{read_front, replace_file, write_file};
 
@@ -264,7 +266,8 @@ fn delete_from(image: &mut [u8], disk: &[u8], caller: Caller, name: &[u8]) -> u8
 }
 
 // Saves the bytes to the disk, and writes it.
-fn save_bytes(rt: &HostRuntime, 
+fn save_bytes(
+    rt: &HostRuntime,
     disk: &[u8],
     caller: Caller,
     shown: &[u8],
@@ -291,7 +294,8 @@ fn save_bytes(rt: &HostRuntime,
 }
 
 // Saves a file to a disk, for the side that the options from `first` on say; the disk goes to `to`, over the file there where that is said.
-pub fn save(rt: &HostRuntime, 
+pub fn save(
+    rt: &HostRuntime,
     disk: &[u8],
     first: usize,
     shown: &[u8],
@@ -316,7 +320,8 @@ pub fn save(rt: &HostRuntime,
     if !l.good {
         return TROUBLE;
     }
-    save_bytes(rt, 
+    save_bytes(
+        rt,
         disk,
         caller_said(rt, first),
         shown,
@@ -336,7 +341,15 @@ fn tell_deleted(fd: i32, name: &[u8]) {
 }
 
 // Deletes a file from a disk, for the side that the options from `first` on say; the disk goes to `to`, over the file there where that is said.
-pub fn delete(rt: &HostRuntime, disk: &[u8], first: usize, shown: &[u8], to: &[u8], over: bool, force: bool) -> u8 {
+pub fn delete(
+    rt: &HostRuntime,
+    disk: &[u8],
+    first: usize,
+    shown: &[u8],
+    to: &[u8],
+    over: bool,
+    force: bool,
+) -> u8 {
     if is_older(disk) {
         return REFUSED;
     }

@@ -3,10 +3,11 @@
 
 use file_walk::{Purpose, follow_files, refuse};
 use holders::HolderCounts;
-use screen::STDOUT_FILENO;
 use outcome::NO_TABLE;
 use page_walk::follow_pages;
-use screen::{GOOD, count, finish, heads, json, right, say, text_number, text_place};
+use screen::{
+    GOOD, STDOUT_FILENO, count, finish, heads, json, right, say, text_number, text_place,
+};
 use sides::{Side, count_held};
 
 // Space for the longest archive, 4,096 blocks.
@@ -232,7 +233,13 @@ fn holder_keys(rt: &HostRuntime, known: bool, h: HolderCounts) -> u8 {
 }
 
 // The object of a disk, or of none: its values are null where there is a refusal.
-fn survey_object(rt: &HostRuntime, refusal: u8, s: files::DiskSurvey, h: HolderCounts, held: Shares) -> u8 {
+fn survey_object(
+    rt: &HostRuntime,
+    refusal: u8,
+    s: files::DiskSurvey,
+    h: HolderCounts,
+    held: Shares,
+) -> u8 {
     json::refusal(refusal);
     survey_keys(refusal == 0, s);
     share_keys(refusal == 0, held);
@@ -241,7 +248,8 @@ fn survey_object(rt: &HostRuntime, refusal: u8, s: files::DiskSurvey, h: HolderC
 
 // A disk that a stream does not hold: nothing is surveyed.
 pub fn none_surveyed(rt: &HostRuntime, refusal: u8) {
-    survey_object(rt, 
+    survey_object(
+        rt,
         refusal,
         files::survey(b""),
         holders::holders(b""),
@@ -249,7 +257,13 @@ pub fn none_surveyed(rt: &HostRuntime, refusal: u8) {
     );
 }
 
-fn show_survey(rt: &HostRuntime, s: files::DiskSurvey, h: HolderCounts, held: Shares, object: bool) -> u8 {
+fn show_survey(
+    rt: &HostRuntime,
+    s: files::DiskSurvey,
+    h: HolderCounts,
+    held: Shares,
+    object: bool,
+) -> u8 {
     if object {
         return survey_object(rt, s.refusal, s, h, held);
     }
@@ -263,7 +277,8 @@ fn show_survey(rt: &HostRuntime, s: files::DiskSurvey, h: HolderCounts, held: Sh
 
 pub fn survey(rt: &HostRuntime, disk: &[u8], object: bool) -> u8 {
     let s = files::survey(disk);
-    let status = show_survey(rt, 
+    let status = show_survey(
+        rt,
         s,
         holders::holders(disk),
         shares_of(disk, s.refusal),

@@ -7,13 +7,12 @@ use arguments::is_dash;
 use arguments::letters::unescape;
 use file_name::file_name;
 use file_walk::{refuse, refuse_overlong};
-use screen::{STDERR_FILENO, STDOUT_FILENO};
 use lists::byte_at;
 use outcome::{NOT_ON_ROLL, OVERLONG};
 use screen::sums::{after, next};
 use screen::{
-    BINARY, GOOD, REFUSED, TROUBLE, count, finish, kind_letters, names, refusal, say, tell, text,
-    text_number,
+    BINARY, GOOD, REFUSED, STDERR_FILENO, STDOUT_FILENO, TROUBLE, count, finish, kind_letters,
+    names, refusal, say, tell, text, text_number,
 };
 use storing::{ready_folder, write_file};
 
@@ -80,7 +79,8 @@ fn refuse_type(shown: &[u8], kind: u8) -> u8 {
 }
 
 // Writes what was fetched. Where that is nothing, the type of the file says whether an empty file is meant.
-fn write_fetched(rt: &HostRuntime, 
+fn write_fetched(
+    rt: &HostRuntime,
     disk: &[u8],
     shown: &[u8],
     name: &[u8],
@@ -111,7 +111,8 @@ pub fn get(rt: &HostRuntime, disk: &[u8], shown: &[u8], to: &[u8], empty: bool, 
     if h.refusal != 0 {
         return refuse(disk, h.refusal);
     }
-    write_fetched(rt, 
+    write_fetched(
+        rt,
         disk,
         shown,
         name,
@@ -219,7 +220,8 @@ fn say_alike(name: &[u8], n: Alike) {
     say(b"\n");
 }
 
-fn write_entry(rt: &HostRuntime, 
+fn write_entry(
+    rt: &HostRuntime,
     archive: &[u8],
     name: &[u8],
     e: reader::Entry,
@@ -231,7 +233,8 @@ fn write_entry(rt: &HostRuntime,
     let k = path_in(folder, name, n, &mut path);
     let mut out = file_space();
     let length = data_of(archive, e, &mut out);
-    let status = write_file(rt, 
+    let status = write_file(
+        rt,
         lists::part(&path, 0, k),
         lists::part(&out, 0, length),
         force,
@@ -270,7 +273,8 @@ fn counted(status: u8, t: Tally) -> Tally {
 }
 
 // Writes the entry at a block, or leaves it out: a line for each.
-fn get_entry(rt: &HostRuntime, 
+fn get_entry(
+    rt: &HostRuntime,
     archive: &[u8],
     first: u16,
     block: u64,
@@ -288,7 +292,14 @@ fn get_entry(rt: &HostRuntime,
     counted(write_entry(rt, archive, name, e, folder, n, force), t)
 }
 
-fn get_entries(rt: &HostRuntime, archive: &[u8], first: u16, folder: &[u8], empty: bool, force: bool) -> Tally {
+fn get_entries(
+    rt: &HostRuntime,
+    archive: &[u8],
+    first: u16,
+    folder: &[u8],
+    empty: bool,
+    force: bool,
+) -> Tally {
     let mut t = Tally {
         written: 0,
         left_out: 0,
