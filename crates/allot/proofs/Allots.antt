@@ -20,7 +20,6 @@ use Rattle.disk.specs.Disk.{start, bytes_of, sectors}
 use Rattle.disk.specs.Vtoc.{vtoc}
 use Rattle.disk.proofs.Places.{on_track, is_on, length_sector}
 use Rattle.files.specs.Contents.{place_bytes}
-use Rattle.amend.specs.Lines.{found}
 use Rattle.amend.specs.Search.{Spot, take_one}
 use Rattle.amend.specs.Save.{Part, sectors_in, take_for, data_for, lists_for}
 use Rattle.allot.specs.Table.{taken_in, seek_in, Allotment, later_at, with_spot, take_next, take_all, allotted, Allotted}

@@ -12,7 +12,7 @@ use Rattle.lists.specs.Fill.{Bytes, put}
 use Rattle.lists.proofs.Split.{by_lt, by_test}
 use Rattle.lists.proofs.Put.{length_put}
 use Rattle.disk.specs.declared.Place.{Place}
-use Rattle.disk.specs.Disk.{place, start, number_of, byte_of, bytes_of, sectors, on_disk}
+use Rattle.disk.specs.Disk.{start, number_of, byte_of, bytes_of, sectors, on_disk}
 use Rattle.disk.specs.Vtoc.{vtoc, map_word}
 use Rattle.disk.proofs.Places.{on_track, on_sector, is_on}
 use Rattle.holders.specs.Holders.{free}

@@ -2,7 +2,7 @@
 use mathlib.Core.Path.{◌≡◌, refl, sym, ap, subst, ◌∙◌}
 use mathlib.Core.Bool.{Bool, true, false, not}
 use mathlib.Core.List.{List, [], ◌∷◌, ◌++◌, map, flat_map}
-use mathlib.Core.Option.{none, some}
+use mathlib.Core.Option.{some}
 use Prim.Native.Nat.{ℕ, zero, suc, ◌+◌, ◌*◌, ◌-◌, ◌/◌, ◌%◌, ◌<◌, ◌≤◌}
 use native.Mathlib.Omega.{arith}
 use lib.ListN.{length, get_or, take, drop, replicate, length-take}
@@ -10,7 +10,6 @@ use lib.Seq.{take_at, drop_at, length-take-le}
 use lib.Dec.{eqb, leb}
 use borrow.Author.Tests.{leb-true, not-true, ne_eqb, eqb-true, eqb-false}
 use Rattle.lists.specs.Every.{Every}
-use Rattle.lists.specs.Every
 use Rattle.lists.specs.Fill.{Bytes, put}
 use Rattle.lists.specs.Same.{same}
 use Rattle.lists.specs.Select.{any, among}
@@ -25,7 +24,7 @@ use Rattle.outcome.specs.declared.Refusal.TheVariants.{UnwritableName, NoSpace, 
 use Rattle.outcome.specs.Outcome.{Outcome, given, ◌>>=◌, ◌>>◌, require}
 use Rattle.outcome.proofs.Outcome.{gives, refused_given}
 use Rattle.disk.specs.declared.Place.{Place}
-use Rattle.disk.specs.Disk.{place, number_of, on_disk, bytes_of, sectors}
+use Rattle.disk.specs.Disk.{number_of, on_disk, bytes_of, sectors}
 use Rattle.disk.specs.Vtoc.{vtoc}
 use Rattle.disk.proofs.Places.{same_place, on_track, on_sector, is_on}
 use Rattle.catalog.specs.Catalog.{valid_file, kind_of, trimmed, shown, entry_from, pages}

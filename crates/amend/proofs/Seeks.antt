@@ -8,7 +8,6 @@ use native.Mathlib.Omega.{arith}
 use lib.Dec.{eqb, leb}
 use borrow.Author.Tests.{leb-true, eqb-true, eqb-false, not-true}
 use Rattle.lists.specs.Every.{Every}
-use Rattle.lists.specs.Every
 use Rattle.lists.specs.Fill.{below}
 use Rattle.lists.proofs.Split.{by_test, by_lt, both_true}
 use Rattle.lists.proofs.Chunks.{every_append, every_tab, split_every}

@@ -2,7 +2,6 @@
 use mathlib.Core.Path.{◌≡◌, refl, ap, ◌∙◌}
 use mathlib.Core.Bool.{Bool, true, false}
 use mathlib.Core.List.{List, [], ◌∷◌, ◌++◌, map, flat_map}
-use mathlib.Core.Option.{none}
 use Prim.Native.Nat.{ℕ, zero, suc, ◌+◌, ◌*◌, ◌-◌, ◌/◌, ◌%◌, ◌<◌}
 use native.Mathlib.Omega.{arith}
 use lib.ListN.{length, get_or, take, drop, length-append, length-take, length-drop, get_or-append}
@@ -10,7 +9,6 @@ use lib.Seq.{get_or-append-add, get_or-take, get_or-drop, ext_get_or}
 use lib.Dec.{leb}
 use borrow.Author.Tests.{ne_eqb, le-leb}
 use Rattle.lists.specs.Every.{Every}
-use Rattle.lists.specs.Every
 use Rattle.lists.specs.Fill.{padded}
 use Rattle.lists.specs.Select.{all}
 use Rattle.lists.specs.Words.{le2, word_at}

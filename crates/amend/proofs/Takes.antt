@@ -8,14 +8,13 @@ use lib.ListN.{length, length-append}
 use lib.Dec.{eqb}
 use borrow.Author.Tests.{eqb-true, eqb-false}
 use Rattle.lists.specs.Every.{Every}
-use Rattle.lists.specs.Every
 use Rattle.lists.proofs.Split.{by_test, by_lt}
 use Rattle.lists.proofs.Among.{unlike}
 use Rattle.lists.proofs.Chunks.{every_append, split_every}
 use Rattle.outcome.specs.Outcome.{Outcome, given}
 use Rattle.outcome.proofs.Outcome.{gives}
 use Rattle.disk.specs.declared.Place.{Place}
-use Rattle.disk.specs.Disk.{place, number_of, on_disk, sectors}
+use Rattle.disk.specs.Disk.{number_of, on_disk, sectors}
 use Rattle.disk.proofs.Places.{same_place}
 use Rattle.holders.specs.Holders.{held, free}
 use Rattle.holders.proofs.Counting.{held_none, held_here, held_else, held_append}

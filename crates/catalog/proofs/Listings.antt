@@ -13,7 +13,7 @@ use Rattle.lists.proofs.Select.{filter_every}
 use Rattle.outcome.specs.declared.Handed.{Handed}
 use Rattle.outcome.specs.declared.Refusal.{Refusal}
 use Rattle.outcome.specs.Refusal.{code}
-use Rattle.outcome.specs.Outcome.{Outcome, refused, given, ◌>>=◌, handed, refused_with, accepted_with, left_by}
+use Rattle.outcome.specs.Outcome.{Outcome, refused, given, ◌>>=◌, refused_with, accepted_with, left_by}
 use Rattle.outcome.proofs.Outcome.{code_pos, hands_refused, hands_short, hands_over_lem, handed_fits}
 use Rattle.disk.specs.declared.Place.{Place}
 use Rattle.disk.specs.Disk.{per_of, start}

@@ -13,15 +13,14 @@ use borrow.Author.Tests.{lt-ltb, le-ltb, eq-eqb, ne_eqb, not-true, not-false}
 use borrow.Author.Rules.{rules}
 use Rattle.lists.specs.Select.{all, filter, among}
 use Rattle.lists.proofs.Among.{among_snoc}
-use Rattle.lists.proofs.Split.{by_lt, by_test}
+use Rattle.lists.proofs.Split.{by_test}
 use Rattle.lists.proofs.Select.{onward, onward_next, onward_end}
 use Rattle.outcome.specs.declared.Refusal.TheVariants.{BadLetter}
 use Rattle.outcome.specs.Outcome.{Outcome, refused, given, number, ◌>>=◌, ◌>>◌}
 use Rattle.outcome.proofs.Outcome.{number_0}
 use Rattle.disk.specs.declared.Place.{Place}
 use Rattle.disk.specs.Vtoc.{readable}
-use Rattle.disk.specs.Vtoc.{vtoc}
-use Rattle.disk.specs.Disk.{per_of, place, link_of, byte_of, start, on_disk, sectors}
+use Rattle.disk.specs.Disk.{per_of, link_of, byte_of, start, on_disk, sectors}
 use Rattle.disk.specs.Chain.{walk}
 use Rattle.disk.proofs.Steps.{made, rest, rest_start, rest_full, rest_off, rest_bad, rest_end, rest_more}
 use Rattle.catalog.specs.Catalog.{Entry, known_type, kind_of, letter, valid_file, live, entry_from, entry_at, entries_of, plain_names, last_page, next_page, sound_page, first_page, pages}

@@ -1,6 +1,6 @@
 -- The stepping law, carried from the cursor to the reader. Assumes nothing.
-use mathlib.Core.Path.{◌≡◌, refl, sym, ap, ◌∙◌, subst}
-use mathlib.Core.List.{List, [], ◌∷◌}
+use mathlib.Core.Path.{◌≡◌, sym, ap, ◌∙◌, subst}
+use mathlib.Core.List.{List}
 use Prim.Native.Nat.{ℕ}
 use denote.Ref.{Bor}
 use borrow.Author.Rules.{rules}
@@ -11,7 +11,6 @@ use Rattle.reader.specs.declared.Entry.{Entry}
 use Rattle.reader.specs.Steps.{opened_with, entry_step}
 use Rattle.reader.specs.Claims.{Stepped, end, entry}
 use Rattle.reader.proofs.Claimed.{reading}
-use Rattle.cursor.specs.declared.Reader.{Reader}
 use Rattle.cursor.specs.Cursor
 use Rattle.cursor.specs.Cursor.{Goes, Stepping}
 

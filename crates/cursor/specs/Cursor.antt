@@ -1,6 +1,6 @@
 -- A reader that holds the archive and the block at which it stands, and its steps. Document 01, "Return": its steps give the load's entries, each once and in
 -- order, and after the last it says end.
-use Rattle.std.specs.Prelude.{◌≡◌, List, [], ◌∷◌, ℕ}
+use Rattle.std.specs.Prelude.{◌≡◌, List, [], ◌∷◌}
 use Rattle.lists.specs.Fill.{Bytes}
 use Rattle.outcome.specs.Outcome.{given}
 use Rattle.files.specs.Contents.{File, Contents}

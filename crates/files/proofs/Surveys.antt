@@ -8,7 +8,6 @@ use native.Mathlib.Omega.{arith}
 use lib.ListN.{length}
 use Rattle.lists.specs.Fill.{Bytes}
 use Rattle.lists.specs.Every.{Every}
-use Rattle.lists.specs.Every
 use Rattle.disk.specs.declared.Place.{Place}
 use Rattle.disk.specs.Disk.{sectors}
 use Rattle.disk.specs.Percent.{Nearest}

@@ -10,7 +10,6 @@ use lib.Seq.{get_or-append-add, get_or-take, get_or-drop, ext_get_or, drop-drop}
 use lib.Dec.{leb}
 use borrow.Author.Tests.{le-leb}
 use Rattle.lists.specs.Every.{Every}
-use Rattle.lists.specs.Every
 use Rattle.lists.specs.Fill.{padded, put, placed}
 use Rattle.lists.proofs.Split.{by_lt, by_test}
 use Rattle.lists.proofs.Laws.{length_padded, get_or_padded}

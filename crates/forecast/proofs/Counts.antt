@@ -8,7 +8,6 @@ use lib.ListN.{length, length-append}
 use lib.Dec.{ltb}
 use borrow.Author.Tests.{lt-ltb}
 use Rattle.lists.specs.Every.{Every}
-use Rattle.lists.specs.Every
 use Rattle.lists.specs.Select.{any, filter}
 use Rattle.lists.proofs.Split.{by_test}
 use Rattle.lists.proofs.Every.{every_imp, parted}

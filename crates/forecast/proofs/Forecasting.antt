@@ -10,7 +10,6 @@ use lib.ListN.{length, get_or, length-map}
 use lib.Dec.{leb, ltb}
 use borrow.Author.Tests.{le-leb, lt-leb, leb-true, not-true}
 use Rattle.lists.specs.Every.{Every}
-use Rattle.lists.specs.Every
 use Rattle.lists.specs.Fill.{Bytes}
 use Rattle.lists.specs.Same.{same}
 use Rattle.lists.specs.Select.{any, filter}
@@ -26,7 +25,7 @@ use Rattle.disk.specs.Disk.{start, bytes_of, sectors}
 use Rattle.disk.specs.Vtoc.{vtoc}
 use Rattle.catalog.specs.Catalog.{shown}
 use Rattle.files.specs.Contents.{File, pairs_of}
-use Rattle.amend.specs.Lines.{savable, starts, in_use, lines, open_line, tidy, is_open, holds_name, fill_first}
+use Rattle.amend.specs.Lines.{savable, starts, in_use, open_line, tidy, is_open, holds_name, fill_first}
 use Rattle.amend.specs.Save.{Part, data_for, lists_for, take_for, saved_at, stored, saved}
 use Rattle.amend.specs.Amending.{Op, amend, kept, run, file_saved, Clean}
 use Rattle.amend.proofs.Puts.{byte_same}

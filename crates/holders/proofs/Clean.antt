@@ -8,7 +8,6 @@ use native.Mathlib.Omega.{arith}
 use lib.Dec.{eqb, ltb}
 use borrow.Author.Tests.{ltb-true, ltb-false, lt-ltb, le-ltb, eqb-true, eq-eqb}
 use Rattle.lists.specs.Every.{Every}
-use Rattle.lists.specs.Every
 use Rattle.lists.specs.Select.{among, Apart, passing}
 use Rattle.lists.proofs.Split.{by_test, both_true, clash}
 use Rattle.lists.proofs.Among.{among_here, among_there, among_cases}

@@ -2,7 +2,7 @@
 use mathlib.Core.Path.{◌≡◌, refl, sym, ap, subst, ◌∙◌}
 use mathlib.Core.Bool.{Bool, true, false, cond, ◌&&◌}
 use mathlib.Core.List.{List, [], ◌∷◌, ◌++◌, flat_map, foldl, append-nil, append_assoc}
-use Prim.Native.Nat.{ℕ, zero, suc, ◌+◌, ◌*◌, ◌/◌, ◌<◌, ◌≤◌}
+use Prim.Native.Nat.{ℕ, ◌+◌, ◌*◌, ◌/◌, ◌<◌, ◌≤◌}
 use native.Mathlib.Numerals.{add-one}
 use native.Mathlib.Omega.{arith}
 use lib.ListN.{length, get_or, set, length-set}
@@ -19,10 +19,10 @@ use Rattle.outcome.specs.Refusal.{code}
 use Rattle.outcome.specs.Outcome.{Outcome, refused, given, ◌>>=◌, ◌>>◌, number}
 use Rattle.outcome.proofs.Outcome.{refused_given, gives, map_refuses, number_0, number_then}
 use Rattle.disk.specs.declared.Place.{Place}
-use Rattle.disk.specs.Disk.{place, start, on_disk, byte_of, link_of}
+use Rattle.disk.specs.Disk.{start, on_disk, byte_of, link_of}
 use Rattle.disk.specs.Vtoc.{vtoc, readable}
 use Rattle.disk.proofs.Steps.{made, rest, rest_start, rest_full, rest_off, rest_bad, rest_end, rest_more}
-use Rattle.catalog.specs.Catalog.{valid_file, live, entry_from, entries_of, plain_names, sound_page, last_page, next_page, first_page}
+use Rattle.catalog.specs.Catalog.{valid_file, entry_from, entries_of, plain_names, sound_page, last_page, next_page, first_page}
 use Rattle.files.specs.Contents.{pair_at, pairs_of, whole_link, sound_list, next_list, list_walk}
 use Rattle.files.proofs.Runs.{behind, stop, next, none_behind}
 use Rattle.holders.specs.Holders.{with_pairs, sectors_from}

@@ -2,14 +2,14 @@
 use mathlib.Core.Path.{◌≡◌, refl, sym, ap, subst, ◌∙◌}
 use mathlib.Core.Bool.{Bool, true, false, cond}
 use mathlib.Core.List.{List, [], ◌∷◌, ◌++◌}
-use Prim.Native.Nat.{ℕ, zero, suc, ◌+◌, ◌-◌, ◌<◌, ◌≤◌}
+use Prim.Native.Nat.{ℕ, ◌+◌, ◌-◌, ◌<◌, ◌≤◌}
 use native.Mathlib.Omega.{arith}
 use lib.ListN.{length, get_or, take, drop, replicate}
 use lib.Seq.{take_at}
 use lib.Dec.{eqb, leb, ltb}
 use borrow.Author.Tests.{eq-eqb, le-leb, lt-leb, lt-ltb, le-ltb}
 use borrow.Author.Rules.{rules}
-use Rattle.lists.specs.Fill.{placed, tab}
+use Rattle.lists.specs.Fill.{placed}
 use Rattle.lists.proofs.Laws.{tab_self}
 use Rattle.lists.proofs.Split.{by_test}
 use Rattle.lists.proofs.Fills.{FillTo, fill_start, fill_turn, fill_end}
@@ -19,9 +19,8 @@ use Rattle.outcome.specs.declared.Refusal.{Refusal}
 use Rattle.outcome.specs.declared.Meaning.{Meaning}
 use Rattle.outcome.specs.declared.Meaning.TheVariants.{Refused, Nothing}
 use Rattle.outcome.specs.declared.Word.{Word}
-use Rattle.outcome.specs.Outcome.{Outcome, refused, given, ◌>>=◌, number, handed, left_by}
+use Rattle.outcome.specs.Outcome.{Outcome, refused, given, ◌>>=◌, number}
 use Rattle.outcome.proofs.Outcome.{code_pos}
-use Rattle.disk.specs.declared.Place.{Place}
 use Rattle.disk.specs.declared.VolumeTableOfContents.{VolumeTableOfContents}
 use Rattle.disk.specs.Disk.{per_of, byte_of}
 use Rattle.disk.specs.Vtoc.{vtoc, blank, readable, table_of, parsed}

@@ -1,13 +1,13 @@
 -- `data_sum`, `values_of`, `pairs_of`, `put_bytes`, `sector_data` and `decode_sector` over plain variables. Assumes nothing.
-use mathlib.Core.Path.{◌≡◌, refl, sym, ap, ◌∙◌}
+use mathlib.Core.Path.{◌≡◌, refl, sym, ◌∙◌}
 use mathlib.Core.Bool.{Bool}
-use mathlib.Core.List.{List, [], ◌++◌, append-nil}
+use mathlib.Core.List.{List, ◌++◌}
 use Prim.Native.Nat.{ℕ, ◌+◌, ◌-◌, ◌*◌, ◌/◌, ◌%◌, ◌≤◌, ◌<◌}
 use native.Mathlib.Omega.{arith}
 use borrow.Author.Rules.{rules}
 use borrow.Author.Tests.{lt-ltb, le-ltb, eq-eqb, ne_eqb}
 use lib.Dec.{eqb, eqb→eq, ltb, ltb→lt}
-use lib.ListN.{length, set, get_or, drop, replicate, length-replicate, drop_of_length-le, get_or-eq_default}
+use lib.ListN.{length, set, get_or, drop, get_or-eq_default}
 use Rattle.lists.specs.Fill.{tab, filled, padded, placed}
 use Rattle.lists.proofs.Laws.{Filling, fill_none, fill_again, fill_whole, get_or_tab, length_padded}
 use Rattle.lists.proofs.Put.{Put, put_is_front}

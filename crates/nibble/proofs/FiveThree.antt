@@ -7,7 +7,7 @@ use native.Mathlib.Omega.{arith}
 use borrow.Author.Rules.{rules}
 use borrow.Author.Tests.{lt-ltb, le-ltb}
 use lib.Dec.{eqb, eqb→eq, ltb, ltb→lt}
-use lib.ListN.{length, set, get_or, drop, replicate, length-replicate, get_or-eq_default}
+use lib.ListN.{length, set, get_or, drop, get_or-eq_default}
 use Rattle.lists.specs.Fill.{tab, filled, padded, placed}
 use Rattle.lists.specs.Select.{any, filter}
 use Rattle.lists.proofs.Laws.{Filling, fill_none, fill_step, fill_done, length_tab, get_or_tab, length_padded}

@@ -4,7 +4,7 @@ use mathlib.Core.List.{List}
 use Prim.Native.Nat.{ℕ, ◌+◌, ◌≤◌, ◌<◌}
 use native.Mathlib.Omega.{arith}
 use lib.ListN.{length, set}
-use Rattle.lists.proofs.Laws.{Filling, fill_none, fill_step, fill_self}
+use Rattle.lists.proofs.Laws.{Filling, fill_step, fill_self}
 
 -- places a to e are filled by a loop of their own, up to i; o₀ is the buffer as that loop began, and it has m places
 pub record Ranged (f : ℕ → ℕ) (m : ℕ) (o₀ o : List ℕ) (a e i : ℕ) : Type 0 where

@@ -1,6 +1,6 @@
 -- The 4-and-4 coding of a byte and the 6-and-2 coding of a sector: document 01, "Nibbles" under Modules. A sector's 256 bytes are 342 values of six bits; each is written as a
 -- nibble of its XOR with the value before it, and the last value again is the sum.
-use Rattle.std.specs.Prelude.{◌≡◌, cond, List, [], ◌∷◌, ℕ, zero, suc, ◌+◌, ◌-◌, ◌*◌, ◌/◌, ◌%◌, ◌<◌, ltb, eqb, length, get_or}
+use Rattle.std.specs.Prelude.{◌≡◌, cond, List, [], ◌∷◌, ℕ, suc, ◌+◌, ◌-◌, ◌*◌, ◌/◌, ◌%◌, ◌<◌, ltb, eqb, length, get_or}
 use Rattle.std.specs.Int.Bits.{bit_xor, bit_and, bit_or}
 use Rattle.lists.specs.Fill.{tab, before_of}
 use Rattle.nibble.specs.Running.{run_at}

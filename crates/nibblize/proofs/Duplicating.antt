@@ -1,5 +1,5 @@
 -- The claim of Req 14: each stream made of the 560 sector writings of one disk unrolls_made to that disk. Assumes nothing.
-use mathlib.Core.Path.{◌≡◌, refl, ap, ◌∙◌}
+use mathlib.Core.Path.{◌≡◌, refl, ◌∙◌}
 use mathlib.Core.List.{List, ◌∷◌, ◌++◌, map-append}
 use Prim.Native.Nat.{ℕ, ◌<◌}
 use native.Mathlib.Omega.{arith}
@@ -12,7 +12,7 @@ use Rattle.outcome.specs.declared.Handed.{Handed}
 use Rattle.outcome.specs.Outcome.{refused_with}
 use Rattle.fields.specs.declared.Edition.TheVariants.{Sixteen}
 use Rattle.stream.specs.Stream.{Denibblized}
-use Rattle.nibblize.specs.Layouts.{Piece, Layout, stream_of, order_of, Spaced, Order, Covers, MadeOf}
+use Rattle.nibblize.specs.Layouts.{Piece, order_of, Order, Covers, MadeOf}
 use Rattle.nibblize.specs.Claims.{Flat, Duplicating}
 use Rattle.nibblize.proofs.Unrolls.{length_laid, unrolls_made}
 use Rattle.nibblize.proofs.Written.{nibblized_made, made_denibblizes, written_made}

@@ -10,7 +10,6 @@ use lib.Dec.{eqb}
 use lib.ListN.{length, take, drop, length-append, length-drop}
 use lib.Seq.{length-take-le}
 use Rattle.lists.specs.Every.{Every}
-use Rattle.lists.specs.Every
 use Rattle.lists.specs.Fill.{Bytes}
 use Rattle.lists.specs.Select.{all, any, among}
 use Rattle.lists.proofs.Among.{among_cases, among_here, among_there, unlike}

@@ -8,7 +8,6 @@ use lib.Dec.{eqb}
 use lib.ListN.{length, take, drop, replicate, length-append}
 use lib.Seq.{take_at}
 use Rattle.lists.specs.Every.{Every}
-use Rattle.lists.specs.Every
 use Rattle.lists.specs.Fill.{tab, cats, Bytes}
 use Rattle.lists.proofs.Among.{among_tab}
 use Rattle.lists.proofs.Blocks.{length_cats, cats_front}

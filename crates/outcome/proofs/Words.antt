@@ -5,7 +5,6 @@ use Prim.Native.Nat.{ℕ}
 use borrow.Author.Tests.{ne_eqb}
 use borrow.Author.Rules.{rules}
 use Rattle.outcome.specs.declared.Refusal.{Refusal}
-use Rattle.outcome.specs.declared.Refusal
 use Rattle.outcome.specs.declared.Meaning.{Meaning}
 use Rattle.outcome.specs.declared.Meaning.TheVariants.{Refused, Nothing}
 use Rattle.outcome.specs.declared.Word.{Word}

@@ -1,5 +1,6 @@
 // Why a call refuses: the refusals, their numbers and their words. Document 01, "Numbers on the slip". (In the Rust: errors and panics, error.rs.)
 #![tactic(auto)]
+
 ghost use Rattle.std.specs.Prelude.{◌≡◌};
 ghost use Rattle.outcome.specs.Outcome.{refused_with, accepted_with};
 ghost use Rattle.outcome.specs.Refusal.{code, refusal_of, word_of, shown_word};

@@ -13,7 +13,7 @@ use Rattle.lists.specs.Select.{take_while}
 use Rattle.lists.proofs.Laws.{get_or_tab}
 use Rattle.lists.proofs.Select.{take_while_short, take_while_get_d, length_onward}
 use Rattle.outcome.specs.declared.Handed.{Handed}
-use Rattle.outcome.specs.declared.Refusal.TheVariants.{OffSize, OffDisc, TrayShort}
+use Rattle.outcome.specs.declared.Refusal.TheVariants.{OffDisc, TrayShort}
 use Rattle.outcome.specs.Outcome.{Outcome, refused, given, ◌>>=◌, ◌>>◌, require, refused_with, accepted_with, answer_of, Hands}
 use Rattle.outcome.proofs.Outcome.{then_gives}
 use Rattle.disk.specs.declared.Place.{Place}

@@ -4,11 +4,10 @@ use mathlib.Core.List.{List, [], ◌∷◌}
 use Prim.Native.Nat.{ℕ}
 use native.Mathlib.Omega.{arith}
 use Rattle.lists.specs.Every.{Every}
-use Rattle.lists.specs.Every
 use Rattle.outcome.specs.Refusal.{code}
 use Rattle.outcome.specs.Outcome.{Outcome, refused, given, number}
 use Rattle.outcome.proofs.Outcome.{code_pos}
-use Rattle.disk.specs.Disk.{per_of, sectors}
+use Rattle.disk.specs.Disk.{per_of}
 use Rattle.files.specs.Survey.{fetched}
 use Rattle.amend.specs.Save.{saved}
 use Rattle.amend.specs.Amending.{Op, amend, kept, run, Clean}

@@ -21,7 +21,7 @@ use Rattle.outcome.specs.Outcome.{Outcome, refused, given, ◌>>=◌, ◌>>◌, 
 use Rattle.outcome.specs.declared.Handed.{Handed}
 use Rattle.outcome.proofs.Outcome.{gives, refused_given, number_0}
 use Rattle.disk.specs.declared.Place.{Place}
-use Rattle.disk.specs.Disk.{place, start, bytes_of, on_disk, sectors}
+use Rattle.disk.specs.Disk.{place, start, bytes_of, on_disk}
 use Rattle.disk.specs.Vtoc.{vtoc}
 use Rattle.catalog.specs.Catalog.{entry_from}
 use Rattle.files.specs.Contents.{Contents, list_walk, lists, pairs_of, place_bytes}

@@ -11,7 +11,6 @@ use lib.Dec.{eqb}
 use borrow.Author.Tests.{eq-eqb, eqb-true, not-true, not-false}
 use borrow.Author.Rules.{rules}
 use Rattle.lists.specs.Every.{Every}
-use Rattle.lists.specs.Every
 use Rattle.lists.proofs.Split.{by_test, both_true}
 use Rattle.lists.proofs.Put.{length_put, put_whole, placed_put}
 use Rattle.disk.specs.declared.Place.{Place}

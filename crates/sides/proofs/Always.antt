@@ -2,22 +2,21 @@
 -- Assumes nothing.
 use mathlib.Core.Path.{◌≡◌, refl, sym, ap, subst, ◌∙◌}
 use mathlib.Core.Bool.{Bool, true, false, cond, not, ◌&&◌}
-use mathlib.Core.Logic.{◌⊎◌, ⊎_elim}
+use mathlib.Core.Logic.{⊎_elim}
 use mathlib.Core.List.{List, [], ◌∷◌, ◌++◌, map, flat_map}
-use mathlib.Core.Option.{Option, none, some}
+use mathlib.Core.Option.{Option}
 use Prim.Native.Nat.{ℕ, ◌+◌, ◌*◌, ◌/◌, ◌<◌, ◌≤◌}
 use native.Mathlib.Omega.{arith}
 use lib.ListN.{length, get_or}
 use lib.Dec.{leb}
 use Rattle.lists.specs.Every.{Every}
-use Rattle.lists.specs.Every
 use Rattle.lists.specs.Fill.{Bytes, put}
 use Rattle.lists.specs.Select.{any, among}
 use Rattle.lists.proofs.Split.{by_test, both_true}
 use Rattle.lists.proofs.Select.{any_same}
 use Rattle.outcome.specs.declared.Refusal.TheVariants.{NotOnRoll, NoSpace}
 use Rattle.outcome.specs.Refusal.{code}
-use Rattle.outcome.specs.Outcome.{Outcome, refused, given, ◌>>=◌, ◌>>◌, each, number}
+use Rattle.outcome.specs.Outcome.{Outcome, refused, given, ◌>>=◌, each, number}
 use Rattle.outcome.proofs.Outcome.{each_cons, each_same}
 use Rattle.disk.specs.declared.Place.{Place}
 use Rattle.disk.specs.Disk.{start, number_of, sectors}
@@ -27,7 +26,7 @@ use Rattle.records.specs.Records.{entry_record}
 use Rattle.records.proofs.Entries.{length_record}
 use Rattle.holders.specs.Holders.{sectors_of}
 use Rattle.holders.proofs.Refusals.{sectors_on}
-use Rattle.amend.specs.Lines.{last_of, found, savable, starts, in_use, is_named, open_line, line_of, holds_name}
+use Rattle.amend.specs.Lines.{found, savable, starts, in_use, is_named, open_line, line_of, holds_name}
 use Rattle.amend.specs.Search.{freed}
 use Rattle.amend.specs.Save.{Part, data_for, first_list, data_of, take_for, written, file_writes, saved_at, stored, deleted_at, removed}
 use Rattle.amend.specs.Amending.{Op, OfBytes, kept, Clean}

@@ -1,5 +1,5 @@
 -- The sectors of a side, counted line by line and page by page. Assumes nothing.
-use mathlib.Core.Path.{◌≡◌, refl, sym, ap, subst, ◌∙◌}
+use mathlib.Core.Path.{◌≡◌, refl, sym, ap, ◌∙◌}
 use mathlib.Core.Bool.{Bool, true, false, cond, not, ◌&&◌}
 use mathlib.Core.List.{List, [], ◌∷◌, ◌++◌, map, flat_map, map-append}
 use mathlib.Core.Option.{Option, none, some}
@@ -7,7 +7,7 @@ use Prim.Native.Nat.{ℕ, zero, suc, ◌+◌, ◌*◌, ◌-◌, ◌<◌, ◌≤�
 use native.Mathlib.Nat.{zero-add}
 use native.Mathlib.Numerals.{add-one}
 use native.Mathlib.Omega.{arith}
-use lib.ListN.{length, get_or, take, drop, length-append}
+use lib.ListN.{length, get_or, drop, length-append}
 use lib.Dec.{eqb}
 use lib.Seq.{get_or-take, get_or-drop}
 use borrow.Author.Tests.{eqb-true, not-true, not-false}
@@ -24,7 +24,7 @@ use Rattle.disk.specs.declared.Place.{Place}
 use Rattle.disk.specs.Disk.{start, on_disk, link_of, sectors}
 use Rattle.disk.proofs.Chain.{Chained, walk_chained, walk_short}
 use Rattle.disk.proofs.Chain
-use Rattle.catalog.specs.Catalog.{Entry, valid_file, live, is_nil, trimmed, letter, shown, entry_from, sound_page, last_page, next_page, first_page, pages}
+use Rattle.catalog.specs.Catalog.{valid_file, live, is_nil, trimmed, letter, shown, entry_from, sound_page, last_page, next_page, first_page, pages}
 use Rattle.catalog.proofs.Order.{pages_given}
 use Rattle.files.specs.declared.Thread.{Thread}
 use Rattle.files.specs.Contents.{pairs_of, list_walk}
@@ -33,7 +33,6 @@ use Rattle.holders.specs.Holders.{with_pairs, sectors_from, sectors_of}
 use Rattle.amend.specs.Lines.{starts}
 use Rattle.amend.proofs.Reading.{given_same}
 use Rattle.sides.specs.declared.Side.{Side}
-use Rattle.sides.specs.declared.Side
 use Rattle.sides.specs.Sides.{begins_s, belongs, of_side, own_at, own_sectors, held_by}
 use Rattle.sides.specs.Steps.{lettered, many, over_pages, line_count, lines_count, page_count, tally}
 

@@ -7,7 +7,6 @@ use native.Mathlib.Omega.{arith}
 use lib.Dec.{eqb}
 use borrow.Author.Tests.{eqb-true, eqb-false}
 use Rattle.lists.specs.Every.{Every}
-use Rattle.lists.specs.Every
 use Rattle.lists.proofs.Split.{by_test, both_true}
 use Rattle.lists.proofs.Chunks.{every_append}
 use Rattle.outcome.specs.Outcome.{Outcome, given, ◌>>=◌, each}

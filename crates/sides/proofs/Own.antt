@@ -4,9 +4,8 @@ use mathlib.Core.Bool.{Bool, true, false, cond}
 use mathlib.Core.List.{List, [], ◌∷◌, ◌++◌, flat_map}
 use Prim.Native.Nat.{ℕ, ◌+◌}
 use native.Mathlib.Omega.{arith}
-use lib.ListN.{length, length-append}
+use lib.ListN.{length}
 use Rattle.lists.specs.Every.{Every}
-use Rattle.lists.specs.Every
 use Rattle.lists.specs.Select.{filter}
 use Rattle.lists.proofs.Split.{by_test}
 use Rattle.lists.proofs.Select.{filter_no, filter_append, filter_every, filter_same}

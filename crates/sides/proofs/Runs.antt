@@ -6,10 +6,9 @@ use Prim.Native.Nat.{ℕ, ◌<◌, ◌≤◌}
 use native.Mathlib.Omega.{arith}
 use lib.ListN.{length}
 use Rattle.lists.specs.Every.{Every}
-use Rattle.lists.specs.Every
 use Rattle.lists.specs.Fill.{Bytes}
 use Rattle.outcome.specs.declared.Refusal.{Refusal}
-use Rattle.outcome.specs.Outcome.{Outcome, refused, given, ◌>>=◌, ◌>>◌}
+use Rattle.outcome.specs.Outcome.{Outcome, refused, given, ◌>>=◌}
 use Rattle.disk.specs.declared.Place.{Place}
 use Rattle.files.specs.Contents.{Contents}
 use Rattle.amend.specs.Lines.{tidy}
@@ -19,7 +18,6 @@ use Rattle.lists.proofs.Every.{every_imp, every_both}
 use Rattle.amend.proofs.Amending.{clean_of}
 use Rattle.sides.specs.declared.Side.{Side}
 use Rattle.sides.specs.Sides.{other, held_by, saved_for, deleted_for, Call, call_of, answer, run_for}
-use Rattle.sides.specs.declared.Side
 use Rattle.sides.specs.Claims.{BytesIn, KeptFor, InLimit, OneLimit}
 use Rattle.sides.proofs.Own.{kept_for, held_then}
 use Rattle.sides.proofs.Steps.{Effect, effect}

@@ -1,13 +1,12 @@
 -- One call that is accepted: it is a save or a delete of Req 09 in a line that is not the other side's. Assumes nothing.
-use mathlib.Core.Path.{◌≡◌, refl, sym, ap, subst, ◌∙◌}
+use mathlib.Core.Path.{◌≡◌, refl, sym, ap, ◌∙◌}
 use mathlib.Core.Bool.{Bool, true, false, not, ◌&&◌}
 use mathlib.Core.List.{List, [], ◌∷◌, flat_map}
-use Prim.Native.Nat.{ℕ, ◌+◌, ◌*◌, ◌<◌, ◌≤◌}
+use Prim.Native.Nat.{ℕ, ◌+◌, ◌<◌, ◌≤◌}
 use native.Mathlib.Omega.{arith}
 use lib.ListN.{length, length-append}
 use borrow.Author.Tests.{leb-true, not-true}
 use Rattle.lists.specs.Every.{Every}
-use Rattle.lists.specs.Every
 use Rattle.lists.specs.Fill.{Bytes}
 use Rattle.lists.proofs.Split.{both_true, and_false}
 use Rattle.lists.proofs.Equal.{same_eq}
@@ -15,18 +14,15 @@ use Rattle.outcome.specs.declared.Refusal.TheVariants.{UnwritableName, NameTaken
 use Rattle.outcome.specs.Outcome.{Outcome, refused, given, ◌>>◌, require}
 use Rattle.outcome.proofs.Outcome.{gives, refused_given, required}
 use Rattle.disk.specs.declared.Place.{Place}
-use Rattle.disk.specs.Disk.{sectors}
 use Rattle.catalog.specs.Catalog.{Entry, live, shown, entry_from}
 use Rattle.files.specs.Contents.{Contents}
 use Rattle.holders.specs.Holders.{sectors_of}
-use Rattle.holders.proofs.Refusals.{contents_with}
-use Rattle.amend.specs.Lines.{savable, starts, in_use, is_named, tidy, present}
+use Rattle.amend.specs.Lines.{savable, starts, in_use, is_named, tidy}
 use Rattle.amend.specs.Save.{Part, data_for, lists_for, sectors_in, data_of, is_new, stored, removed, saved, deleted}
 use Rattle.amend.specs.Amending.{Op, OfBytes, Clean}
 use Rattle.amend.specs.Amending
 use Rattle.amend.proofs.Lines.{line_holds}
-use Rattle.amend.proofs.Takes.{given_pair}
-use Rattle.amend.proofs.Reading.{Reading, given_same, tidy_given, tidy_reading, reading_tidy, contents_size}
+use Rattle.amend.proofs.Reading.{Reading}
 use Rattle.amend.proofs.Kept.{Changed}
 use Rattle.amend.proofs.Mid.{After, LineKept}
 use Rattle.amend.proofs.Listed.{first_split}
@@ -35,7 +31,6 @@ use Rattle.amend.proofs.Amending.{reading_of, size_of}
 use Rattle.amend.proofs.Saves.{Filled, save_clean, open_line_lem}
 use Rattle.sides.specs.declared.Side.{Side}
 use Rattle.sides.specs.Sides.{other, begins_s, belongs, of_side, own_at, held_by, within, saved_for, deleted_for, call_of}
-use Rattle.sides.specs.declared.Side
 
 -- a name of one side is not the other's
 pub other_no : (s : Side) (x : List ℕ) → belongs s x ≡ true → belongs (other s) x ≡ false

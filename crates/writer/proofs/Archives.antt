@@ -2,16 +2,15 @@
 use mathlib.Core.Path.{◌≡◌, refl, sym, ap, ◌∙◌}
 use mathlib.Core.Bool.{Bool, true, false, cond, ◌&&◌}
 use mathlib.Core.List.{List, [], ◌∷◌, ◌++◌, map, foldl, flat_map, append_assoc}
-use Prim.Native.Nat.{ℕ, zero, suc, ◌+◌, ◌-◌, ◌*◌, ◌<◌, ◌≤◌}
+use Prim.Native.Nat.{ℕ, zero, suc, ◌+◌, ◌*◌, ◌≤◌}
 use native.Mathlib.Omega.{arith}
-use lib.ListN.{length, take, drop, length-take, length-drop, length-append, take-append-drop}
+use lib.ListN.{length, take, drop, length-take, length-drop, length-append}
 use lib.Seq.{drop-drop, take-add, take_all}
 use lib.Dec.{eqb}
 use borrow.Author.Tests.{eq-eqb, ne_eqb, eqb-true, eqb-false}
 use Rattle.lists.specs.Every.{Every, none, more}
 use Rattle.lists.specs.Fill.{below}
 use Rattle.lists.specs.Same.{same}
-use Rattle.lists.specs.Select.{filter}
 use Rattle.lists.proofs.Equal.{same_append}
 use Rattle.lists.proofs.Split.{by_test, and_assoc, and_true}
 use Rattle.lists.proofs.Select.{onward, onward_next, onward_end, length_onward, filter_every}
@@ -20,7 +19,7 @@ use Rattle.lists.proofs.Put.{Put, put_none, put_more, placed_put}
 use Rattle.outcome.specs.Outcome.{given, each}
 use Rattle.outcome.proofs.Outcome.{each_cons, each_every}
 use Rattle.disk.specs.declared.Place.{Place}
-use Rattle.catalog.specs.Catalog.{Entry, live, entry_from, entry_at, entries_of}
+use Rattle.catalog.specs.Catalog.{Entry, live, entry_at, entries_of}
 use Rattle.files.specs.Contents.{File, Contents, file_of}
 use Rattle.files.specs.Survey.{data_blocks, blocks_in, blocks}
 use Rattle.files.proofs.Order.{file_given}

@@ -1,11 +1,11 @@
 -- What each return of the writer and of the checker gives. Assumes nothing.
-use mathlib.Core.Path.{◌≡◌, refl, sym, ap, subst, ◌∙◌}
+use mathlib.Core.Path.{◌≡◌, refl, sym, ap, ◌∙◌}
 use mathlib.Core.Bool.{Bool, true, false, cond}
 use mathlib.Core.List.{List, [], ◌∷◌, foldl, flat_map}
 use Prim.Native.Nat.{ℕ, ◌+◌, ◌*◌, ◌<◌, ◌≤◌}
 use native.Mathlib.Omega.{arith}
 use lib.ListN.{length}
-use lib.Dec.{eqb, leb}
+use lib.Dec.{eqb}
 use borrow.Author.Tests.{eq-eqb, ne_eqb, le-leb, lt-leb, not-true, not-false}
 use borrow.Author.Rules.{rules}
 use Rattle.lists.specs.Same.{same}
@@ -15,12 +15,12 @@ use Rattle.outcome.specs.declared.Handed.{Handed}
 use Rattle.outcome.specs.declared.Refusal.{Refusal}
 use Rattle.outcome.specs.declared.Refusal.TheVariants.{Overlong, NotItsReturn}
 use Rattle.outcome.specs.Refusal.{code}
-use Rattle.outcome.specs.Outcome.{Outcome, refused, given, ◌>>=◌, each, number, require, refused_with, accepted_with, Hands}
+use Rattle.outcome.specs.Outcome.{Outcome, refused, given, each, number, require, refused_with, accepted_with, Hands}
 use Rattle.outcome.proofs.Outcome.{code_pos, hands_refused, hands_short, hands_over_lem}
 use Rattle.disk.specs.declared.Place.{Place}
 use Rattle.disk.specs.Disk.{per_of, sectors}
 use Rattle.disk.specs.Chain.{walk}
-use Rattle.catalog.specs.Catalog.{Entry, entries_of, sound_page, next_page, first_page, pages}
+use Rattle.catalog.specs.Catalog.{entries_of, sound_page, next_page, first_page}
 use Rattle.catalog.proofs.Order.{pages_given, catalog_given}
 use Rattle.files.specs.declared.DiskSurvey.{DiskSurvey}
 use Rattle.files.specs.Contents.{File, Contents, contents, file_of}
@@ -31,7 +31,7 @@ use Rattle.files.proofs.Surveys.{contents_refuse, survey_gives, survey_given}
 use Rattle.archive.specs.Archive.{if_any, first_block, archive, archive_of, check}
 use Rattle.archive.proofs.Blocks.{Short, length_archive}
 use Rattle.writer.specs.declared.Mark.{Mark}
-use Rattle.writer.specs.Passes.{Pass, fresh_mark, pass_of, stepped, with_page, walk_made, Made, MadeAll, Filed, Walked}
+use Rattle.writer.specs.Passes.{Pass, fresh_mark, pass_of, stepped, with_page, walk_made, Made, MadeAll, Walked}
 use Rattle.writer.proofs.Archives.{names_short, whole_blocks, pass_is, pass_writes, pass_compares}
 
 -- ---- the first block, and the pass

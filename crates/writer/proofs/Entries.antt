@@ -1,19 +1,19 @@
 -- The file of an entry, made of the sectors whose starts were collected along its lists. Assumes nothing.
 use mathlib.Core.Path.{◌≡◌, refl, sym, ap, subst, ◌∙◌}
-use mathlib.Core.Bool.{Bool, true, cond}
+use mathlib.Core.Bool.{Bool, true}
 use mathlib.Core.List.{List, [], ◌∷◌, ◌++◌, flat_map}
-use Prim.Native.Nat.{ℕ, zero, suc, ◌+◌, ◌-◌, ◌*◌, ◌<◌, ◌≤◌}
+use Prim.Native.Nat.{ℕ, zero, suc, ◌+◌, ◌*◌, ◌<◌, ◌≤◌}
 use native.Mathlib.Nat.{mul-zero}
 use native.Mathlib.Omega.{arith}
 use lib.ListN.{length, take, drop, get_or, replicate, length-take, length-drop, length-append, length-replicate, get_or-append, take-append-drop}
-use lib.Seq.{take_at, take_all, take-take, take-nil, drop-nil, take-append-le, drop-append-le}
-use lib.Dec.{eqb, leb}
-use borrow.Author.Tests.{eqb-true, eqb-false, le-leb}
+use lib.Seq.{take_at, take_all, take-take, take-append-le, drop-append-le}
+use lib.Dec.{leb}
+use borrow.Author.Tests.{le-leb}
 use borrow.Author.Rules.{rules}
 use Rattle.lists.specs.Every.{Every, none, more}
 use Rattle.lists.specs.Select.{all}
 use Rattle.lists.specs.Words.{word_at}
-use Rattle.lists.proofs.Split.{by_test, by_lt, both_true}
+use Rattle.lists.proofs.Split.{by_lt, both_true}
 use Rattle.lists.proofs.Put.{put_is, put_front}
 use Rattle.lists.proofs.Chunks.{flat_map_append, length_chunks}
 use Rattle.outcome.specs.Outcome.{given}
@@ -22,15 +22,15 @@ use Rattle.disk.specs.Disk.{place, start, sectors, on_disk, word_of, bytes_of}
 use Rattle.catalog.specs.declared.EntryHead.{EntryHead}
 use Rattle.catalog.specs.Catalog.{Entry, entry_from}
 use Rattle.catalog.specs.Listing.{entry_head}
-use Rattle.files.specs.Contents.{File, bytes_in, pairs_of, list_walk, file_of}
+use Rattle.files.specs.Contents.{File, bytes_in, pairs_of, file_of}
 use Rattle.files.specs.Threads.{head_of}
-use Rattle.files.specs.Copies.{cut_of, Roomy, Whole, Copied, CopiedAll, walk_of}
+use Rattle.files.specs.Copies.{Roomy, Whole, Copied, CopiedAll, walk_of}
 use Rattle.files.proofs.Order.{file_given}
 use Rattle.files.proofs.Proper.{all_long, bytes_in_binary}
 use Rattle.files.proofs.Sums.{stated, first}
 use Rattle.files.proofs.Datas.{cut_nil, cut_4, joined_lists}
 use Rattle.writer.specs.declared.Mark.{Mark}
-use Rattle.writer.specs.Passes.{Pass, pass_of, sector_at, size_by, start_by, stated_in, collected, file_with, with_file, with_entry, Made, Sectors, Has, spot, start_of}
+use Rattle.writer.specs.Passes.{pass_of, sector_at, size_by, start_by, stated_in, collected, file_with, with_file, with_entry, Made, Sectors, Has, spot, start_of}
 
 -- ---- fronts of lists
 every_take : {P : ℕ → Type 0} {xs : List ℕ} (k : ℕ) → Every P xs → Every P (take k xs)

@@ -2,7 +2,7 @@
 use mathlib.Core.Path.{◌≡◌, refl, sym, ap, subst, ◌∙◌}
 use mathlib.Core.Bool.{Bool, cond}
 use mathlib.Core.List.{List, [], map, foldl}
-use Prim.Native.Nat.{ℕ, ◌+◌, ◌-◌, ◌*◌, ◌/◌, ◌%◌, ◌<◌, ◌≤◌}
+use Prim.Native.Nat.{ℕ, ◌+◌, ◌*◌, ◌%◌, ◌<◌, ◌≤◌}
 use native.Mathlib.Omega.{arith}
 use lib.ListN.{length, get_or}
 use lib.Dec.{eqb}
@@ -12,9 +12,7 @@ use Rattle.lists.specs.Fill.{below}
 use Rattle.lists.specs.Words.{word_at}
 use Rattle.lists.proofs.Select.{onward, onward_next, onward_end}
 use Rattle.catalog.specs.declared.EntryHead.{EntryHead}
-use Rattle.files.specs.Contents.{File}
 use Rattle.files.specs.Survey.{blocks_for}
-use Rattle.archive.specs.Archive.{entry_block}
 use Rattle.archive.specs.Blocks.{entry_bytes}
 use Rattle.writer.specs.declared.Mark.{Mark}
 use Rattle.writer.specs.Passes.{Pass, pass_of, size_by, start_by, stated_in, made_at, head_at, file_with, stepped, Made}

@@ -1,6 +1,6 @@
 -- The pass over the entries of a page, and over the pages. Assumes nothing.
 use mathlib.Core.Path.{◌≡◌, refl, sym, ap, ◌∙◌}
-use mathlib.Core.Bool.{Bool, true, false, cond}
+use mathlib.Core.Bool.{Bool, true, false}
 use mathlib.Core.List.{List, [], ◌∷◌, ◌++◌, foldl, flat_map, append-nil}
 use mathlib.Core.Option.{Option, none, some}
 use Prim.Native.Nat.{ℕ, ◌+◌, ◌*◌, ◌<◌, ◌≤◌}
@@ -11,10 +11,10 @@ use borrow.Author.Rules.{rules}
 use Rattle.lists.specs.Select.{filter}
 use Rattle.lists.proofs.Split.{by_test}
 use Rattle.lists.proofs.Select.{onward, onward_next, onward_end}
-use Rattle.outcome.specs.Outcome.{Outcome, refused, given, ◌>>=◌, each}
+use Rattle.outcome.specs.Outcome.{Outcome, given, each}
 use Rattle.outcome.proofs.Outcome.{gives, each_cons, each_append}
 use Rattle.disk.specs.declared.Place.{Place}
-use Rattle.disk.specs.Disk.{start, sectors, link_of}
+use Rattle.disk.specs.Disk.{start, link_of}
 use Rattle.disk.specs.Chain.{walk}
 use Rattle.disk.proofs.Steps.{made, rest, joins, joined_is, rest_start, rest_within, rest_last, rest_on, rest_front}
 use Rattle.catalog.specs.Catalog.{Entry, valid_file, live, entry_from, entry_at, entries_of, sound_page, last_page, next_page}

@@ -1,23 +1,21 @@
 -- The bytes of a file, and its blocks, made of the sectors whose starts were collected. Assumes nothing.
 use mathlib.Core.Path.{◌≡◌, refl, sym, ap, ◌∙◌}
-use mathlib.Core.Bool.{Bool, true, cond}
+use mathlib.Core.Bool.{Bool}
 use mathlib.Core.List.{List, [], ◌∷◌, ◌++◌, map, foldl, flat_map}
 use Prim.Native.Nat.{ℕ, zero, suc, ◌+◌, ◌-◌, ◌*◌, ◌/◌, ◌%◌, ◌<◌, ◌≤◌, min}
 use native.Mathlib.Numerals.{add-one}
 use native.Mathlib.Omega.{arith}
 use lib.ListN.{length, take, drop, get_or, length-take, length-drop}
-use lib.Seq.{drop-cons, get_or-take, take-take, drop-drop, take-append-le, length-take-le, take-nil}
+use lib.Seq.{drop-cons, get_or-take, take-take, drop-drop, take-append-le, length-take-le}
 use lib.Dec.{leb}
-use borrow.Author.Tests.{le-leb, leb-true, leb-false}
+use borrow.Author.Tests.{leb-true}
 use borrow.Author.Rules.{rules}
-use Rattle.lists.specs.Every.{Every, none, more}
 use Rattle.lists.specs.Fill.{tab, below}
 use Rattle.lists.proofs.Split.{by_test, by_lt}
 use Rattle.lists.proofs.Cuts.{drop_take, take_min}
 use Rattle.lists.proofs.Chunks.{length_chunks, drop_chunks}
 use Rattle.lists.proofs.Every.{every_at}
 use Rattle.catalog.specs.declared.EntryHead.{EntryHead}
-use Rattle.files.specs.Contents.{File}
 use Rattle.files.specs.Copies.{cut_of}
 use Rattle.files.specs.Survey.{blocks_for}
 use Rattle.files.proofs.Copying.{cut_two}

@@ -1,5 +1,5 @@
 -- What a pass of the writer or of the checker does: it makes the archive block by block from the disk, and writes or compares each block.
-use Rattle.std.specs.Prelude.{◌≡◌, Bool, true, cond, ◌&&◌, ℕ, ◌+◌, ◌-◌, ◌*◌, ◌/◌, ◌%◌, ◌≤◌, ◌<◌, min, length, take, drop, get_or, eqb, leb}
+use Rattle.std.specs.Prelude.{◌≡◌, Bool, true, cond, ◌&&◌, ℕ, ◌+◌, ◌-◌, ◌*◌, ◌/◌, ◌%◌, ◌≤◌, min, length, take, drop, get_or, eqb, leb}
 use mathlib.Core.List.{List, [], ◌∷◌, ◌++◌, map, foldl, flat_map}
 use Rattle.lists.specs.Every.{Every}
 use Rattle.lists.specs.Fill.{placed, below}
@@ -10,11 +10,11 @@ use Rattle.disk.specs.Chain.{walk}
 use Rattle.disk.specs.declared.Place.{Place}
 use Rattle.disk.specs.Disk.{start, sectors}
 use Rattle.catalog.specs.declared.EntryHead.{EntryHead}
-use Rattle.catalog.specs.Catalog.{Entry, entry_from, live, entries_of, sound_page, next_page}
+use Rattle.catalog.specs.Catalog.{Entry, live, entries_of, sound_page, next_page}
 use Rattle.files.specs.declared.Spot.{Spot}
 use Rattle.files.specs.Contents.{File, file_of}
 use Rattle.files.specs.Copies.{cut_of}
-use Rattle.files.specs.Survey.{blocks_for, data_blocks}
+use Rattle.files.specs.Survey.{data_blocks}
 use Rattle.archive.specs.Archive.{data_block, entry_block}
 use Rattle.writer.specs.declared.Mark.{Mark}
 

@@ -1,5 +1,4 @@
 use Rattle.allot.proofs.Seeking.{legs}
-use Prim.Native.Nat.{◌-◌}
 use Rattle.allot.proofs.leg_up.Goals as goal
 
 pub loop-t-init : goal.loop-t-init

@@ -1,5 +1,4 @@
 use Rattle.allot.proofs.Taking.{taking}
-use Prim.Native.Nat.{◌-◌}
 use Rattle.allot.proofs.take_sectors.Goals as goal
 
 pub returns-then-table-ne256 : goal.returns-then-table-ne256

@@ -1,4 +1,3 @@
-use Prim.Native.Nat.{◌-◌}
 use Rattle.catalog.proofs.Turns.{letters}
 use Rattle.catalog.proofs.bad_among.Goals as goal
 

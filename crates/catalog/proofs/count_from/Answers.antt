@@ -1,5 +1,4 @@
 use Rattle.catalog.proofs.Turns.{walks}
-use Prim.Native.Nat.{◌-◌}
 use Rattle.catalog.proofs.count_from.Goals as goal
 
 pub chain_budget-most-requires : goal.chain_budget-most-requires

@@ -1,5 +1,4 @@
 use Rattle.catalog.proofs.Shown.{namings}
-use Prim.Native.Nat.{◌-◌}
 use Rattle.catalog.proofs.filename.Goals as goal
 
 pub shown_length-n-requires : goal.shown_length-n-requires

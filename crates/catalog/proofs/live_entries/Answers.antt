@@ -1,5 +1,4 @@
 use Rattle.catalog.proofs.Turns.{livings}
-use Prim.Native.Nat.{◌-◌}
 use Rattle.catalog.proofs.live_entries.Goals as goal
 
 pub loop-i-init : goal.loop-i-init

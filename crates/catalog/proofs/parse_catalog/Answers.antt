@@ -1,5 +1,4 @@
 use Rattle.catalog.proofs.Writes.{pagings}
-use Prim.Native.Nat.{◌-◌}
 use Rattle.catalog.proofs.parse_catalog.Goals as goal
 
 pub loop-i-init : goal.loop-i-init

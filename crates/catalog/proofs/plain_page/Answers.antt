@@ -1,5 +1,4 @@
 use Rattle.catalog.proofs.Turns.{plains}
-use Prim.Native.Nat.{◌-◌}
 use Rattle.catalog.proofs.plain_page.Goals as goal
 
 pub loop-i-init : goal.loop-i-init

@@ -1,5 +1,4 @@
 use Rattle.catalog.proofs.Writes.{listings}
-use Prim.Native.Nat.{◌-◌}
 use Rattle.catalog.proofs.write_pages.Goals as goal
 
 pub chain_budget-most-requires : goal.chain_budget-most-requires

@@ -1,5 +1,4 @@
 use Rattle.disk.proofs.Numbers.{counts}
-use Prim.Native.Nat.{◌-◌}
 use Rattle.disk.proofs.free_sectors.Goals as goal
 
 pub loop-t-init : goal.loop-t-init

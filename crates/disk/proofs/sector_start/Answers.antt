@@ -1,8 +1,6 @@
 use native.Mathlib.Omega.{arith}
 use mathlib.Core.Path.{refl}
 use Rattle.disk.proofs.Numbers.{bytes_times}
-use Rattle.disk.proofs.sector_start.Reads as reads
-use Rattle.disk.proofs.sector_start.Lts as lts
 use Rattle.disk.proofs.sector_start.Goals as goal
 
 pub overflow_mul-result : goal.overflow_mul-result

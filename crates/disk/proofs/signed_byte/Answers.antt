@@ -1,7 +1,5 @@
 use native.Mathlib.Omega.{arith}
 use Rattle.disk.proofs.Numbers.{signed_low, signed_high}
-use Rattle.disk.proofs.signed_byte.Reads as reads
-use Rattle.disk.proofs.signed_byte.Lts as lts
 use Rattle.disk.proofs.signed_byte.Goals as goal
 
 pub returns-then-b-lt128 : goal.returns-then-b-lt128

@@ -1,5 +1,4 @@
 use Rattle.fields.proofs.Seeks.{seeks}
-use Prim.Native.Nat.{◌-◌}
 use Rattle.fields.proofs.find_fast.Goals as goal
 
 pub loop-k-init : goal.loop-k-init

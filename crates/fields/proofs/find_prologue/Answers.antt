@@ -1,5 +1,4 @@
 use Rattle.fields.proofs.Scan.{seeking}
-use Prim.Native.Nat.{◌-◌}
 use Rattle.fields.proofs.find_prologue.Goals as goal
 
 pub find_mark-k-requires : goal.find_mark-k-requires

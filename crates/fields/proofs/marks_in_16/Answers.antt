@@ -1,5 +1,4 @@
 use Rattle.fields.proofs.Seeks.{hits}
-use Prim.Native.Nat.{◌-◌}
 use Rattle.fields.proofs.marks_in_16.Goals as goal
 
 pub loop-j-init : goal.loop-j-init

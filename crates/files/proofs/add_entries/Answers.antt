@@ -1,5 +1,4 @@
 use Rattle.files.proofs.Adds.{addings}
-use Prim.Native.Nat.{◌-◌}
 use Rattle.files.proofs.add_entries.Goals as goal
 
 pub loop-i-init : goal.loop-i-init

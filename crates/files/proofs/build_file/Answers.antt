@@ -1,5 +1,4 @@
 use Rattle.files.proofs.Runs.{follows}
-use Prim.Native.Nat.{◌-◌}
 use Rattle.files.proofs.build_file.Goals as goal
 
 pub chain_budget-most-requires : goal.chain_budget-most-requires

@@ -1,5 +1,4 @@
 use Rattle.files.proofs.Goes.{goings}
-use Prim.Native.Nat.{◌-◌}
 use Rattle.files.proofs.build_files.Goals as goal
 
 pub chain_budget-most-requires : goal.chain_budget-most-requires

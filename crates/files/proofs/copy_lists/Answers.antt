@@ -1,5 +1,4 @@
 use Rattle.files.proofs.Datas.{copies}
-use Prim.Native.Nat.{◌-◌}
 use Rattle.files.proofs.copy_lists.Goals as goal
 
 pub chain_budget-most-requires : goal.chain_budget-most-requires

@@ -1,5 +1,4 @@
 use Rattle.files.proofs.Copying.{pairings}
-use Prim.Native.Nat.{◌-◌}
 use Rattle.files.proofs.copy_pairs.Goals as goal
 
 pub loop-i-init : goal.loop-i-init

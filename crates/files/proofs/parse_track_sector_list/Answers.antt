@@ -1,5 +1,4 @@
 use Rattle.files.proofs.Runs.{pairings, pairing_stop, pairing_full, pairing_more}
-use Prim.Native.Nat.{◌-◌}
 use native.Mathlib.Omega.{arith}
 use Rattle.files.proofs.parse_track_sector_list.Goals as goal
 

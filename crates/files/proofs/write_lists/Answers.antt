@@ -1,5 +1,4 @@
 use Rattle.files.proofs.ListCalls.{placings}
-use Prim.Native.Nat.{◌-◌}
 use Rattle.files.proofs.write_lists.Goals as goal
 
 pub chain_budget-most-requires : goal.chain_budget-most-requires

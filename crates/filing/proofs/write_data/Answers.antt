@@ -1,5 +1,4 @@
 use Rattle.filing.proofs.Writing.{storings}
-use Prim.Native.Nat.{◌-◌}
 use Rattle.filing.proofs.write_data.Goals as goal
 
 pub loop-k-init : goal.loop-k-init

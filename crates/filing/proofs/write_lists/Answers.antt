@@ -1,4 +1,3 @@
-use Prim.Native.Nat.{◌-◌}
 use Rattle.filing.proofs.Writing.{listings}
 use Rattle.filing.proofs.write_lists.Goals as goal
 

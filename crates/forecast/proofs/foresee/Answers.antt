@@ -1,4 +1,3 @@
-use Prim.Native.Nat.{◌-◌}
 use Rattle.forecast.proofs.Tallies.{foresees}
 use Rattle.forecast.proofs.foresee.Goals as goal
 

@@ -1,4 +1,3 @@
-use Prim.Native.Nat.{◌-◌}
 use Rattle.forecast.proofs.Opens.{totals}
 use Rattle.forecast.proofs.open_lines.Goals as goal
 

@@ -1,4 +1,3 @@
-use Prim.Native.Nat.{◌-◌}
 use Rattle.forecast.proofs.Opens.{page_opens}
 use Rattle.forecast.proofs.page_open.Goals as goal
 

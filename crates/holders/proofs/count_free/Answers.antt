@@ -1,4 +1,3 @@
-use Prim.Native.Nat.{◌-◌}
 use Rattle.holders.proofs.Sums.{tracks}
 use Rattle.holders.proofs.count_free.Goals as goal
 

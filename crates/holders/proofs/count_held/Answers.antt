@@ -1,4 +1,3 @@
-use Prim.Native.Nat.{◌-◌}
 use Rattle.holders.proofs.Sums.{counts}
 use Rattle.holders.proofs.count_held.Goals as goal
 

@@ -1,7 +1,6 @@
 use Rattle.holders.proofs.Sums.{Counted}
 use Prim.Native.Nat.{◌-◌}
 use Rattle.holders.specs.Tally.{is_held}
-use Rattle.holders.proofs.Sums.{counts}
 use Rattle.holders.proofs.count_held.Given as goal
 
 abbrev pub invariant-loop-k : goal.invariant-loop-k

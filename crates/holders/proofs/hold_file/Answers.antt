@@ -1,5 +1,4 @@
 use Rattle.holders.proofs.Tallies.{listings}
-use Prim.Native.Nat.{◌-◌}
 use Rattle.holders.proofs.hold_file.Goals as goal
 
 pub chain_budget-most-requires : goal.chain_budget-most-requires

@@ -1,5 +1,4 @@
 use Rattle.holders.proofs.Tallies.{lines}
-use Prim.Native.Nat.{◌-◌}
 use Rattle.holders.proofs.hold_page.Goals as goal
 
 pub hold-requires : goal.hold-requires

@@ -1,5 +1,4 @@
 use Rattle.holders.proofs.Tallies.{pagings}
-use Prim.Native.Nat.{◌-◌}
 use Rattle.holders.proofs.hold_pages.Goals as goal
 
 pub chain_budget-most-requires : goal.chain_budget-most-requires

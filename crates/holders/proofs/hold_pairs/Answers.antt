@@ -1,6 +1,5 @@
 use borrow.Author.Rules.{rules}
 use Rattle.holders.proofs.Tallies.{paired_more, pairs}
-use Prim.Native.Nat.{◌-◌}
 use Rattle.holders.proofs.hold_pairs.Goals as goal
 
 pub loop-i-init : goal.loop-i-init

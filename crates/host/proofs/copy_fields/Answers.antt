@@ -1,4 +1,3 @@
-use Prim.Native.Nat.{◌-◌}
 use Rattle.host.proofs.Numbers.{copying}
 use Rattle.host.proofs.copy_fields.Goals as goal
 

@@ -1,5 +1,4 @@
 use Rattle.lists.proofs.Fills.{fills}
-use Prim.Native.Nat.{◌-◌}
 use Rattle.lists.proofs.copy_within.Goals as goal
 
 pub loop-k-init : goal.loop-k-init

@@ -1,5 +1,4 @@
 use Rattle.lists.proofs.Equal.{sames}
-use Prim.Native.Nat.{◌-◌}
 use Rattle.lists.proofs.same.Goals as goal
 
 pub returns-then-a-b : goal.returns-then-a-b

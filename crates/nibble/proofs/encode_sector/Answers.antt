@@ -1,5 +1,4 @@
 use Rattle.nibble.proofs.Encode.{encodes}
-use Prim.Native.Nat.{◌-◌}
 use Rattle.nibble.proofs.encode_sector.Goals as goal
 
 pub refused-requires : goal.refused-requires

@@ -1,5 +1,4 @@
 use Rattle.nibble.proofs.Encode.{lowered}
-use Prim.Native.Nat.{◌-◌}
 use Rattle.nibble.proofs.lows.Goals as goal
 
 pub loop-k-init : goal.loop-k-init

@@ -1,4 +1,3 @@
-use Prim.Native.Nat.{◌-◌}
 use Rattle.nibble.proofs.Decode.{paired}
 use Rattle.nibble.proofs.pairs_of.Goals as goal
 

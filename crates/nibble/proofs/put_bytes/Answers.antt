@@ -1,5 +1,4 @@
 use Rattle.nibble.proofs.Decode.{byted}
-use Prim.Native.Nat.{◌-◌}
 use Rattle.nibble.proofs.put_bytes.Goals as goal
 
 pub pairs_of-pairs-requires : goal.pairs_of-pairs-requires

@@ -1,5 +1,4 @@
 use Rattle.nibble.proofs.Encode.{stepped}
-use Prim.Native.Nat.{◌-◌}
 use Rattle.nibble.proofs.steps.Goals as goal
 
 pub bounds-lows-0 : goal.bounds-lows-0

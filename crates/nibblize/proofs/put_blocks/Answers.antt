@@ -1,5 +1,4 @@
 use Rattle.nibblize.proofs.Writing.{writes}
-use Prim.Native.Nat.{◌-◌}
 use Rattle.nibblize.proofs.put_blocks.Goals as goal
 
 pub dos_sectors-order-requires : goal.dos_sectors-order-requires

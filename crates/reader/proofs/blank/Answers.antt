@@ -1,4 +1,3 @@
-use Prim.Native.Nat.{◌-◌}
 use Rattle.reader.proofs.Tests.{blanks}
 use Rattle.reader.proofs.blank.Goals as goal
 

@@ -1,4 +1,3 @@
-use Prim.Native.Nat.{◌-◌}
 use Rattle.reader.proofs.Finding.{finds}
 use Rattle.reader.proofs.find_entry.Goals as goal
 

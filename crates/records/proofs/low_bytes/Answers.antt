@@ -1,4 +1,3 @@
-use Prim.Native.Nat.{◌-◌}
 use Rattle.records.proofs.Entries.{lows}
 use Rattle.records.proofs.low_bytes.Goals as goal
 

@@ -1,4 +1,3 @@
-use Prim.Native.Nat.{◌-◌}
 use Rattle.records.proofs.Entries.{fields}
 use Rattle.records.proofs.name_field.Goals as goal
 

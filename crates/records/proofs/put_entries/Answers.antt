@@ -1,4 +1,3 @@
-use Prim.Native.Nat.{◌-◌}
 use Rattle.records.proofs.Page.{pagings}
 use Rattle.records.proofs.put_entries.Goals as goal
 

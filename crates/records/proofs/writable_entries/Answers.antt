@@ -1,4 +1,3 @@
-use Prim.Native.Nat.{◌-◌}
 use Rattle.records.proofs.Page.{nameds}
 use Rattle.records.proofs.writable_entries.Goals as goal
 

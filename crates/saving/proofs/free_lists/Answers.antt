@@ -1,4 +1,3 @@
-use Prim.Native.Nat.{◌-◌}
 use Rattle.saving.proofs.Freeing.{walkings}
 use Rattle.saving.proofs.free_lists.Goals as goal
 

@@ -1,4 +1,3 @@
-use Prim.Native.Nat.{◌-◌}
 use Rattle.saving.proofs.Freeing.{freeings}
 use Rattle.saving.proofs.free_pairs.Goals as goal
 

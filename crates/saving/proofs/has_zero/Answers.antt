@@ -1,4 +1,3 @@
-use Prim.Native.Nat.{◌-◌}
 use Rattle.saving.proofs.Names.{zeros}
 use Rattle.saving.proofs.has_zero.Goals as goal
 

@@ -1,4 +1,3 @@
-use Prim.Native.Nat.{◌-◌}
 use Rattle.saving.proofs.Looks.{lookings}
 use Rattle.saving.proofs.look.Goals as goal
 

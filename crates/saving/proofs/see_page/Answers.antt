@@ -1,4 +1,3 @@
-use Prim.Native.Nat.{◌-◌}
 use Rattle.saving.proofs.Looks.{linings}
 use Rattle.saving.proofs.see_page.Goals as goal
 

@@ -1,4 +1,3 @@
-use Prim.Native.Nat.{◌-◌}
 use Rattle.sides.proofs.Counts.{pagings}
 use Rattle.sides.proofs.count_held.Goals as goal
 

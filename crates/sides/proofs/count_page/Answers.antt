@@ -1,4 +1,3 @@
-use Prim.Native.Nat.{◌-◌}
 use Rattle.sides.proofs.Counts.{linings}
 use Rattle.sides.proofs.count_page.Goals as goal
 

@@ -1,4 +1,3 @@
-use Prim.Native.Nat.{◌-◌}
 use Rattle.stream.proofs.Images.{ahead}
 use Rattle.stream.proofs.address_refusal.Goals as goal
 

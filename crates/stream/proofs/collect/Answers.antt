@@ -1,5 +1,4 @@
 use Rattle.stream.proofs.Images.{collecting}
-use Prim.Native.Nat.{◌-◌}
 use Rattle.stream.proofs.collect.Goals as goal
 
 pub parse_nib_sector-first-requires : goal.parse_nib_sector-first-requires

@@ -1,4 +1,3 @@
-use Prim.Native.Nat.{◌-◌}
 use Rattle.stream.proofs.Images.{having}
 use Rattle.stream.proofs.complete.Goals as goal
 

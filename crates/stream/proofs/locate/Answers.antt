@@ -1,4 +1,3 @@
-use Prim.Native.Nat.{◌-◌}
 use Rattle.stream.proofs.Keyed.{looking}
 use Rattle.stream.proofs.locate.Goals as goal
 

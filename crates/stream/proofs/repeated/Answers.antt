@@ -1,4 +1,3 @@
-use Prim.Native.Nat.{◌-◌}
 use Rattle.stream.proofs.Keyed.{repeats}
 use Rattle.stream.proofs.repeated.Goals as goal
 

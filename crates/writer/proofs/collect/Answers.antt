@@ -1,4 +1,3 @@
-use Prim.Native.Nat.{◌-◌}
 use Rattle.writer.proofs.Collects.{collectings}
 use Rattle.writer.proofs.collect.Goals as goal
 

@@ -1,5 +1,4 @@
 use Rattle.files.proofs.Copying.{pairs_stop, pairs_more, pairs_full}
-use Prim.Native.Nat.{◌-◌}
 use native.Mathlib.Omega.{arith}
 use Rattle.writer.proofs.Collects.{collects}
 use Rattle.writer.proofs.collect_pairs.Goals as goal

@@ -1,4 +1,3 @@
-use Prim.Native.Nat.{◌-◌}
 use Rattle.writer.proofs.Heads.{chains}
 use Rattle.writer.proofs.emit_data.Goals as goal
 

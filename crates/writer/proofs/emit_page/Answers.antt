@@ -1,4 +1,3 @@
-use Prim.Native.Nat.{◌-◌}
 use Rattle.writer.proofs.Pages.{pagings}
 use Rattle.writer.proofs.emit_page.Goals as goal
 

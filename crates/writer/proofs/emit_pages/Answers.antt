@@ -1,4 +1,3 @@
-use Prim.Native.Nat.{◌-◌}
 use Rattle.writer.proofs.Pages.{walkings}
 use Rattle.writer.proofs.emit_pages.Goals as goal
 

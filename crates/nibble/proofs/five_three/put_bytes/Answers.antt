@@ -1,5 +1,4 @@
 use Rattle.nibble.proofs.FiveThree.{grouped}
-use Prim.Native.Nat.{◌-◌}
 use Rattle.nibble.proofs.five_three.put_bytes.Goals as goal
 
 pub loop-i-init : goal.loop-i-init

@@ -1,5 +1,4 @@
 use Rattle.nibble.proofs.Runs.{valued}
-use Prim.Native.Nat.{◌-◌}
 use Rattle.nibble.proofs.running.put_values.Goals as goal
 
 pub loop-k-init : goal.loop-k-init

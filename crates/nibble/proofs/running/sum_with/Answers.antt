@@ -1,5 +1,4 @@
 use Rattle.nibble.proofs.Runs.{sums}
-use Prim.Native.Nat.{◌-◌}
 use Rattle.nibble.proofs.running.sum_with.Goals as goal
 
 pub loop-k-init : goal.loop-k-init
