@@ -5,15 +5,15 @@
 
 use arguments::{
     ALL, ARCHIVE, CHECK, CROSSED, DELETE, DENIBBLIZE, EMPTY, FILES, FORCE, FORECAST, GET, JSON,
-    LIST, MAP, NIBBLIZE, OUT, RAW, SAVE, SHOW, SURVEY, SVG, argument, changes, command_of, dashes, has_long,
-    has_option, has_words, is_dash, out_word, said, unknown_command, unknown_option, usage,
-    value_of, word, wrong_options,
+    LIST, MAP, NIBBLIZE, OUT, RAW, SAVE, SHOW, SURVEY, SVG, argument, changes, command_of, dashes,
+    has_long, has_option, has_words, is_dash, out_word, said, unknown_command, unknown_option,
+    usage, value_of, word, wrong_options,
 };
 use file_walk::{refuse, refuse_overlong};
-use screen::{STDERR_FILENO, STDOUT_FILENO};
 use outcome::{NOT_ITS_RETURN, OVERLONG};
 use screen::{
-    GOOD, REFUSED, TROUBLE, finish, input, json, names, refusal, say, tell, text, text_number,
+    GOOD, REFUSED, STDERR_FILENO, STDOUT_FILENO, TROUBLE, finish, input, json, names, refusal, say,
+    tell, text, text_number,
 };
 use storing::{read_file, write_file};
 
@@ -36,7 +36,12 @@ fn stream_space() -> [u8; 232960] {
 fn save_word(rt: &HostRuntime, first: usize, k: usize, bytes: &[u8]) -> u8 {
     let mut out = io::buffer();
     let n = word(rt, first, k, &mut out);
-    write_file(rt, lists::part(&out, 0, n), bytes, has_option(rt, first, FORCE))
+    write_file(
+        rt,
+        lists::part(&out, 0, n),
+        bytes,
+        has_option(rt, first, FORCE),
+    )
 }
 
 fn draw_svg(rt: &HostRuntime, disk: &[u8], from: &[u8], first: usize) -> u8 {
@@ -70,7 +75,8 @@ fn get_one(rt: &HostRuntime, disk: &[u8], first: usize) -> u8 {
     let n = word(rt, first, 2, &mut shown);
     let mut to = io::buffer();
     let k = word(rt, first, 3, &mut to);
-    fetching::get(rt, 
+    fetching::get(
+        rt,
         disk,
         lists::part(&shown, 0, n),
         lists::part(&to, 0, k),
@@ -85,7 +91,8 @@ fn get(rt: &HostRuntime, disk: &[u8], first: usize) -> u8 {
     }
     let mut folder = io::buffer();
     let n = word(rt, first, 2, &mut folder);
-    fetching::get_all(rt, 
+    fetching::get_all(
+        rt,
         disk,
         lists::part(&folder, 0, n),
         has_option(rt, first, EMPTY),
@@ -167,7 +174,8 @@ fn save(rt: &HostRuntime, from: &[u8], disk: &[u8], first: usize) -> u8 {
     let l = word(rt, first, 4, &mut file);
     let mut to = io::buffer();
     let m = way_out(rt, from, first, &mut to);
-    changing::save(rt, 
+    changing::save(
+        rt,
         disk,
         first,
         lists::part(&name, 0, n),
@@ -184,7 +192,8 @@ fn delete(rt: &HostRuntime, from: &[u8], disk: &[u8], first: usize) -> u8 {
     let n = word(rt, first, 2, &mut name);
     let mut to = io::buffer();
     let m = way_out(rt, from, first, &mut to);
-    changing::delete(rt, 
+    changing::delete(
+        rt,
         disk,
         first,
         lists::part(&name, 0, n),
@@ -197,7 +206,12 @@ fn delete(rt: &HostRuntime, from: &[u8], disk: &[u8], first: usize) -> u8 {
 // A command on a flat disk, which was read from `from`.
 fn on_flat(rt: &HostRuntime, command: u8, from: &[u8], disk: &[u8], first: usize) -> u8 {
     match command {
-        LIST => disk_report::list(rt, disk, has_option(rt, first, RAW), has_option(rt, first, JSON)),
+        LIST => disk_report::list(
+            rt,
+            disk,
+            has_option(rt, first, RAW),
+            has_option(rt, first, JSON),
+        ),
         SURVEY => disk_report::survey(rt, disk, has_option(rt, first, JSON)),
         MAP => draw_map(rt, disk, from, first),
         CROSSED => crossed(rt, disk),
@@ -265,7 +279,15 @@ fn object_refused(rt: &HostRuntime, command: u8, why: u8) {
 }
 
 // A command on a nibble stream: it is denibblized first.
-fn on_stream(rt: &HostRuntime, command: u8, from: &[u8], bytes: &[u8], per: u8, guessed: bool, first: usize) -> u8 {
+fn on_stream(
+    rt: &HostRuntime,
+    command: u8,
+    from: &[u8],
+    bytes: &[u8],
+    per: u8,
+    guessed: bool,
+    first: usize,
+) -> u8 {
     let mut image = disk_space();
     let h = stream_report::denibblize_by(bytes, per, &mut image);
     if h.refusal != 0 {
@@ -301,7 +323,14 @@ fn as_stream(rt: &HostRuntime, command: u8, from: &[u8], bytes: &[u8], first: us
         object_front(from, b"nibble stream", size, per);
         stream_report::reason_string(told == 0, mark);
     } else {
-        say_stream(notes_to(rt, command, first), from, size, per, told == 0, mark);
+        say_stream(
+            notes_to(rt, command, first),
+            from,
+            size,
+            per,
+            told == 0,
+            mark,
+        );
     }
     on_stream(rt, command, from, bytes, per, told == 0, first)
 }

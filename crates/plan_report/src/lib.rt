@@ -7,11 +7,11 @@ use changing::{
     data_space, is_older, left_of, open_lines, refuse_disk, say_zeros, sectors_for, sectors_taken,
     spare_sectors,
 };
-use screen::{STDERR_FILENO, STDOUT_FILENO};
 use outcome::PLAN_LONG;
 use screen::sums::{after, next};
 use screen::{
-    GOOD, REFUSED, TROUBLE, count, finish, names, refusal, right, say, tell, text_number,
+    GOOD, REFUSED, STDERR_FILENO, STDOUT_FILENO, TROUBLE, count, finish, names, refusal, right,
+    say, tell, text_number,
 };
 use storing::read_front;
 
@@ -182,7 +182,14 @@ fn line(rt: &HostRuntime, first: usize, k: usize, files: bool, size: u64, mark: 
 }
 
 // A line for each save of the plan; what is left behind them.
-fn lines(rt: &HostRuntime, disk: &[u8], first: usize, files: bool, lengths: &[u64], numbers: &[u64]) -> Left {
+fn lines(
+    rt: &HostRuntime,
+    disk: &[u8],
+    first: usize,
+    files: bool,
+    lengths: &[u64],
+    numbers: &[u64],
+) -> Left {
     let mut left = Left {
         sectors: spare_sectors(disk),
         lines: open_lines(disk),
