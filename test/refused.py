@@ -3,7 +3,7 @@
 refused. An edit may hold several wrong versions, with an empty line between them; of each, a line `# ` says what is wrong, and lines `refused:` say where it is refused:
     refused: NAME             a goal of the function NAME is refused, and not merely because it calls one that is not proved or names what the edit took away
     refused: proofs/X.antt    a statement of that file is refused, and not merely because it cites one that is
-usage: test/refused.sh [--jobs N] [--alone] [--logs FOLDER] [CRATE..]
+usage: test/refused.sh [--jobs N] [--alone] [--logs FOLDER] [CRATE | CRATE/EDIT ..]
     --alone   tries each wrong version by itself
     --logs    keeps what each check said, as FOLDER/CRATE/EDIT.log, and tells each place with the first line that refuses it
 """
@@ -88,8 +88,8 @@ def refusal(crate, place, log):
 
 
 class Run:
-    def __init__(self, alone, logs):
-        self.alone, self.logs, self.lock = alone, logs, threading.Lock()
+    def __init__(self, alone, logs, only):
+        self.alone, self.logs, self.only, self.lock = alone, logs, only, threading.Lock()
         self.versions = self.edits = self.wrong = 0
 
     def fault(self, text):
@@ -150,7 +150,7 @@ class Run:
                     return
                 folder = f"{TOP}/crates/{crate}/must-fail"
                 for file in sorted(os.listdir(folder)):
-                    if file.endswith(".edit"):
+                    if file.endswith(".edit") and (not self.only.get(crate) or file[: -len(".edit")] in self.only[crate]):
                         with open(f"{folder}/{file}", encoding="utf-8") as it:
                             self.edit(copy, crate, file[: -len(".edit")], it.read())
 
@@ -168,10 +168,13 @@ def main():
         else:
             sys.exit(__doc__)
     every = [it for it in sorted(os.listdir(f"{TOP}/crates")) if os.path.isdir(f"{TOP}/crates/{it}/must-fail")]
-    unknown = [it for it in words if it not in every]
-    if unknown:
-        sys.exit(f"test/refused.sh: there is no crates/{unknown[0]}/must-fail")
-    names, lock, run = words or every, threading.Lock(), Run(alone, logs)
+    only = {}
+    for word in words:
+        crate, _, edit = word.partition("/")
+        if crate not in every or edit and not os.path.isfile(f"{TOP}/crates/{crate}/must-fail/{edit}.edit"):
+            sys.exit(f"test/refused.sh: there is no crates/{crate}/must-fail" + (f"/{edit}.edit" if edit else ""))
+        only.setdefault(crate, []).extend([edit] if edit else [])
+    names, lock, run = list(only) or every, threading.Lock(), Run(alone, logs, only)
 
     def take(left):
         with lock:
