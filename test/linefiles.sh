@@ -1569,21 +1569,20 @@ chmod +x tools/rt
 wrapped survey samples/one-page.dsk
 building='linefiles: building; the first time all is proved, which takes some minutes'
 holds wrapper-build-fails test "$status $(cat err)" = "2 $building
-the log of check linefiles
-linefiles: rt check linefiles failed"
-# rt as it is: a word and a log for each crate, and a line where it is proved; with `slow` there it takes its time over the second
+the log of run
+linefiles: rt run failed in crates/linefiles"
+# rt as it is: a line where a crate is begun, and one where it is proved; with `slow` there it takes its time over the second
 cat >tools/rt <<END
 #!/usr/bin/env bash
-mkdir -p target/log target/bin
 for crate in lists screen linefiles; do
-    echo failed >target/log/\$crate.res
-    touch target/log/\$crate.out
-    if [ -e slow ] && [ \$crate = screen ]; then sleep 3; fi
-    echo proved >target/log/\$crate.res
-    echo "rt: \$crate proved (1 s)"
+    echo "rt: chose --jobs 2 for \$crate" >&2
+    touch ../../target/\$crate.begun
+    if [ -e ../../slow ] && [ \$crate = screen ]; then sleep 3; fi
+    echo "logic=proved functions=1" >&2
 done
-cp $(printf %q "$root/target/bin/linefiles") target/bin/linefiles
-echo "rt: ok, 3 crates proved"
+mkdir -p out
+cp $(printf %q "$root/target/bin/linefiles") out/linefiles
+echo "rt: running out/linefiles" >&2
 END
 wrapped survey samples/one-page.dsk
 sed -E 's/[0-9]+:[0-9]{2}/TIME/; s/; now .*//' err | uniq >told
@@ -1605,7 +1604,7 @@ holds wrapper-builds-again test "$status $(sed -n 1p err)" = "0 $building"
 rm -rf fresh/crates/newer fresh/target
 touch fresh/slow
 PATH=$work/tools fresh/linefiles survey samples/one-page.dsk >first.out 2>first.err &
-while ! [ -e fresh/target/log/screen.out ]; do sleep 0.1; done
+while ! [ -e fresh/target/screen.begun ]; do sleep 0.1; done
 wrapped survey samples/one-page.dsk
 wait
 holds wrapper-waits test "$status $(cat err)" = '0 linefiles: another build is under way; waiting for it'

@@ -10,7 +10,7 @@ ghost use Rattle.std.specs.Prelude.{◌≤◌};
 use disk::{Place, Sector, Track, sector_start};
 use std::fmt;
 use std::fmt::Write;
-use std::io::Error;
+use std::io::{Error, ErrorKind};
 
 // Standard input, standard output and standard error, by their descriptors.
 pub const STDIN_FILENO: i32 = 0;
@@ -76,13 +76,21 @@ pub fn fail(e: Error) {
     tell(b"\n");
 }
 
+// Says that standard output cannot be written to; nothing where nobody reads it.
+fn not_written(e: Error) {
+    if let ErrorKind::BrokenPipe = e.kind() {
+        return;
+    }
+    tell(b"linefiles: cannot write to standard output");
+    fail(e);
+}
+
 // The end of what a command prints: its exit status, 0, or 2 where that cannot be written, which is said.
 pub fn finish(rt: &HostRuntime, s: &[u8]) -> u8 {
     match rt.write_all(s) {
         Ok(()) => GOOD,
         Err(e) => {
-            tell(b"linefiles: cannot write to standard output");
-            fail(e);
+            not_written(e);
             TROUBLE
         },
     }
