@@ -36,7 +36,11 @@ fn put_link(rt: &HostRuntime, k: usize, end: &[u8], rest: &[u8], space: &mut [u8
     m = put(space, m, b"/");
     m = put(space, m, &digits[..d]);
     m = put(space, m, end);
-    put(space, m, rest)
+    m = put(space, m, rest);
+    if space.len() < m {
+        return 0;
+    }
+    m
 }
 
 // The path begins so.
