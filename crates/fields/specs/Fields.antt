@@ -44,7 +44,7 @@ module _ (ed : Edition) where
       (require (eqb (byte4 a 3) (bit_xor (bit_xor (byte4 a 0) (byte4 a 1)) (byte4 a 2))) AddressSum >>
       from_data rest a (after 0xAD (drop 11 a)))
 
-  -- all whole pairs of s, in order; the stream's length is fuel enough (proofs/Scanning.antt, fields-fuel)
+  -- all whole pairs of s, in order; the stream's length is fuel enough (proofs/Scanning.antt, fields_fuel)
   unfoldable pub fields : ℕ → List ℕ → Outcome (List Field)
   fields zero s = given []
   fields (suc fuel) s = from_address (fields fuel) (after (mark_of ed) s)

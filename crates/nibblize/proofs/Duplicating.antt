@@ -1,4 +1,4 @@
--- The claim of Req 14: each stream made of the 560 sector writings of one disk unrolls_made to that disk. Assumes nothing.
+-- The claim of Req 14: each stream made of the 560 sector writings of one disk unrolls to that disk. Assumes nothing.
 use mathlib.Core.Path.{◌≡◌, refl, ◌∙◌}
 use mathlib.Core.List.{List, ◌∷◌, ◌++◌, map-append}
 use Prim.Native.Nat.{ℕ, ◌<◌}

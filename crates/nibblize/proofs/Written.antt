@@ -1,4 +1,4 @@
--- What the nibble writer writes is made of the disk's sector writings, so it unrolls_made to that disk. Assumes nothing.
+-- What the nibble writer writes is made of the disk's sector writings, so it unrolls to that disk. Assumes nothing.
 use mathlib.Core.Path.{◌≡◌, refl, sym, ap, ◌∙◌}
 use mathlib.Core.List.{List, [], ◌∷◌, ◌++◌}
 use Prim.Native.Nat.{ℕ, zero, suc, ◌/◌, ◌%◌, ◌<◌, ◌≤◌}
@@ -88,7 +88,7 @@ nibblized_made d s b e =
     let q : s ≡ laid v d ps [] = cc (nibblized_is d (nibblized_sized d s e), row_laid v d (λ k. k) 560) in
     (record { volume = v; pieces = ps; behind = [] }, record { byte = b _; gaps = row_free (λ k. k) 560; last = free_nil }, covers, q)
 
--- .. so it unrolls_made to the disk again
+-- .. so it unrolls to the disk again
 pub nibblized_unrolls : (d s : List ℕ) → length d ≡ 143360 → Bytes d → nibblized d ≡ given s → image Sixteen s ≡ given d
 nibblized_unrolls d s l b e = unrolls_made d s (l, b) (nibblized_made d s b e)
 
