@@ -4,6 +4,7 @@ refused. An edit may hold several wrong versions, with an empty line between the
     refused: NAME             a goal of the function NAME is refused, and not merely because it calls one that is not proved or names what the edit took away
     refused: proofs/X.antt    a statement of that file is refused, and not merely because it cites one that is
 usage: test/refused.sh [--jobs N] [--alone] [--logs FOLDER] [CRATE | CRATE/EDIT ..]
+    --jobs    how many checks at a time: as many as there are processors, and four at most
     --alone   tries each wrong version by itself
     --logs    keeps what each check said, as FOLDER/CRATE/EDIT.log, and tells each place with the first line that refuses it
 """
@@ -156,7 +157,7 @@ class Run:
 
 
 def main():
-    words, jobs, alone, logs = sys.argv[1:], 2, False, ""
+    words, jobs, alone, logs = sys.argv[1:], min(4, os.cpu_count() or 1), False, ""
     while words and words[0].startswith("--"):
         word = words.pop(0)
         if word == "--jobs":

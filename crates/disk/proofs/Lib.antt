@@ -1,4 +1,5 @@
 pub mod Sectors
+pub mod PercentOf
 pub mod Percent
 pub mod Numbers
 pub mod Places

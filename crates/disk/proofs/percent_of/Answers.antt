@@ -1,4 +1,4 @@
-use Rattle.disk.proofs.Percent.{percents}
+use Rattle.disk.proofs.PercentOf.{percents}
 use Rattle.disk.proofs.percent_of.Goals as goal
 
 pub overflow_mul-hundredfold : goal.overflow_mul-hundredfold
