@@ -180,6 +180,31 @@ if command -v python3 >/dev/null; then
     for file in *.json; do holds "json-parses-$file" python3 -m json.tool "$file"; done
 fi
 
+# Names that are not UTF-8, of disks, files and folders.
+mkdir raw $'raw/\xfe'
+run get samples/one-page.dsk 'LINE 7 RING 1' raw/plain
+run get samples/one-page.dsk 'LINE 7 RING 1' $'raw/a\xff'
+holds raw-name-written test "$status $(tail -n 1 out)" = $'0 wrote raw/a\xff, 700 bytes'
+holds raw-name-bytes cmp raw/plain $'raw/a\xff'
+run get samples/one-page.dsk 'LINE 7 STATIONS' $'raw/a\xff'
+holds raw-name-taken test "$status $(sed -n 1p err)" = $'2 linefiles: raw/a\xff is there already;'
+holds raw-name-kept cmp raw/plain $'raw/a\xff'
+run get samples/one-page.dsk 'LINE 7 STATIONS' $'raw/a\xff' --force
+holds raw-name-forced test "$status $(wc -c <$'raw/a\xff')" = '0 252'
+run get samples/one-page.dsk 'LINE 7 STATIONS' $'raw/\xfe/b\xff'
+holds raw-folder-written test "$status $(wc -c <$'raw/\xfe/b\xff')" = '0 252'
+run get samples/one-page.dsk 'LINE 7 STATIONS' $'raw/\xfd/b\xff'
+holds raw-folder-missing test "$status $(cat err)" = $'2 linefiles: cannot write raw/\xfd/b\xff: No such file or directory'
+cp samples/one-page.dsk $'raw/\xfe.dsk'
+ln -s $'\xfe.dsk' $'raw/l\xff'
+run delete $'raw/l\xff' 'SHIFT NOTES'
+holds raw-disk-replaced test "$status $(readlink $'raw/l\xff')" = $'0 \xfe.dsk'
+run survey $'raw/\xfe.dsk'
+holds raw-disk-changed grep -q '^  entries  *3$' out
+run save $'raw/\xfe.dsk' NEW 0 raw/plain --out $'raw/\xff.dsk'
+holds raw-disk-out test "$status $(wc -c <$'raw/\xff.dsk')" = '0 143360'
+holds raw-nothing-left test -z "$(find raw -name '.linefiles*')"
+
 # map as a picture: that of README is what the command draws
 run map samples/one-page.dsk --svg -
 holds svg-readme cmp out "$root/docs/one-page.svg"

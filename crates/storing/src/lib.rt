@@ -6,7 +6,7 @@ mod naming;
 mod standing;
 
 use kept::keep;
-use naming::{of_folder, of_own};
+use naming::{is_renamed, of_folder, of_new, of_own};
 use screen::names::{input as show_input, path as show_path};
 use screen::sums::after;
 use screen::{
@@ -154,10 +154,22 @@ fn is_there(path: &[u8], what: &[u8]) {
     tell(what);
 }
 
+// Something stands at a path whose file gets another name first.
+fn is_taken(rt: &HostRuntime, path: &[u8]) -> bool {
+    let mut space = io::buffer();
+    match of_own(rt, path, &mut space) {
+        Ok(name) => is_renamed(rt, path) & fs::metadata(rt, name).is_ok(),
+        Err(_) => false,
+    }
+}
+
 // Makes a file that is not there, to write it.
 fn create(rt: &HostRuntime, path: &[u8]) -> Result<File, Error> {
+    if is_taken(rt, path) {
+        return Err(Error::from(ErrorKind::AlreadyExists));
+    }
     let mut space = io::buffer();
-    let name = of_folder(rt, path, &mut space)?;
+    let name = of_new(rt, path, &mut space)?;
     OpenOptions::new()
         .write(true)
         .create_new(true)
@@ -182,13 +194,13 @@ fn rename(rt: &HostRuntime, from: &[u8], to: &[u8]) -> Result<(), Error> {
     let mut space = io::buffer();
     let old = of_folder(rt, from, &mut space)?;
     let mut further = io::buffer();
-    let new = of_folder(rt, to, &mut further)?;
+    let new = of_new(rt, to, &mut further)?;
     fs::rename(rt, old, new)
 }
 
 fn unlink(rt: &HostRuntime, path: &[u8]) {
     let mut space = io::buffer();
-    if let Ok(name) = of_folder(rt, path, &mut space) {
+    if let Ok(name) = of_new(rt, path, &mut space) {
         let _ = fs::remove_file(rt, name);
     }
 }

@@ -1,5 +1,6 @@
 // The text by which a path is opened. The library opens paths that are UTF-8; another is reached by links that ./linefiles makes in a folder of its own: link k leads
-// to what argument k names, and link k- to the folder in which that stands.
+// to what argument k names, and link k- to the folder in which that stands. A file that is written under a name that is not UTF-8 gets another one first, in the same
+// folder, and ./linefiles gives it its own.
 use crate::standing::folder_length;
 use screen::sums::after;
 use std::env::{Env, FillError};
@@ -95,6 +96,66 @@ fn named<'a>(
         return text_of(path);
     }
     text_of(lists::part(space, 0, n))
+}
+
+// Puts the name that a file has first which argument k names, behind link k-, into `space`: the length; 0 where there are no links.
+fn put_first(rt: &HostRuntime, k: usize, space: &mut [u8]) -> usize {
+    let mut folder = io::buffer();
+    let n = put_link(rt, k, b"", b"", &mut folder);
+    let own = folder_length(lists::part(&folder, 0, n));
+    if own < 2 {
+        return 0;
+    }
+    let links = lists::part(&folder, 0, own - 1);
+    let stem = folder_length(links);
+    let mut m = put_link(
+        rt,
+        k,
+        b"-/.linefiles-",
+        lists::part(links, stem, links.len()),
+        space,
+    );
+    if m == 0 {
+        return 0;
+    }
+    m = put(space, m, b"-");
+    let mut digits = [0u8; 20];
+    let d = io::decimal(k as u64, &mut digits);
+    put(space, m, &digits[..d])
+}
+
+// Puts the first name of the file that an argument names by this path into `space`: the length; 0 where none does, or there are no links.
+fn put_new(rt: &HostRuntime, path: &[u8], space: &mut [u8]) -> usize {
+    for k in 3..usize::MAX {
+        let mut w = io::buffer();
+        let n = match rt.arg(k, &mut w) {
+            Ok(n) => n,
+            Err(FillError::TooLong) => 0,
+            Err(FillError::NotPresent) => return 0,
+        };
+        if (0 < n) & lists::same(path, lists::part(&w, 0, n)) {
+            return put_first(rt, k, space);
+        }
+    }
+    0
+}
+
+// The path is not UTF-8, and its file gets another name first.
+pub fn is_renamed(rt: &HostRuntime, path: &[u8]) -> bool {
+    let mut space = io::buffer();
+    if of_folder(rt, path, &mut space).is_ok() {
+        return false;
+    }
+    0 < put_new(rt, path, &mut space)
+}
+
+// The text for a file that is written: the path's own, or of one that is not UTF-8 the name that it has first.
+pub fn of_new<'a>(rt: &HostRuntime, path: &'a [u8], space: &'a mut [u8]) -> Result<&'a str, Error> {
+    if is_renamed(rt, path) {
+        let n = put_new(rt, path, space);
+        return text_of(lists::part(space, 0, n));
+    }
+    of_folder(rt, path, space)
 }
 
 // The text by which what stands at a path is reached.

@@ -1,5 +1,5 @@
 // What stands at a path.
-use crate::naming::{of_folder, of_own, text_of};
+use crate::naming::{is_renamed, of_folder, of_own, text_of};
 use lists::byte_at;
 use screen::sums::after;
 use std::fs;
@@ -58,6 +58,9 @@ fn put_link(path: &[u8], text: &[u8], to: &mut [u8]) -> usize {
 
 // Puts the path to which a link leads, from the link's own folder on, into `to`: its length; 0 where the path is no link.
 fn link_path(rt: &HostRuntime, path: &[u8], to: &mut [u8]) -> Result<usize, Error> {
+    if is_renamed(rt, path) {
+        return Ok(0);
+    }
     let mut space = io::buffer();
     let name = of_folder(rt, path, &mut space)?;
     if !leads(rt, name) {
