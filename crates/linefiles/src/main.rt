@@ -1,5 +1,5 @@
 // The program that people run: it reads a disk, a nibble stream or an archive, calls the libraries, and prints. `./linefiles help` says what it does.
-// A program of the kit has no exit status. So with `--status` as its first argument it writes the status, a digit, to descriptor 3: ./linefiles reads it there. Its
+// With `--status` as its first argument it writes its status, a digit, to descriptor 3: ./linefiles reads it there. Its
 // second argument is then `--as=`, with what is to be kept of a disk that is replaced.
 #![tactic(auto)]
 
