@@ -8,8 +8,8 @@ use lib.ListN.{length, take, drop}
 use lib.Seq.{take_at}
 use Rattle.lists.specs.Fill.{Bytes}
 use Rattle.lists.specs.Every.{Every}
-use Rattle.outcome.specs.declared.Handed.{Handed}
-use Rattle.outcome.specs.Outcome.{given, number, handed, accepted_with, Hands}
+use Rattle.std.specs.Prelude.{Ok}
+use Rattle.outcome.specs.Outcome.{handed, Hands}
 use Rattle.outcome.proofs.Outcome.{handed_fits, hands_given, hands_left}
 use Rattle.files.specs.Contents.{Contents, Proper}
 use Rattle.files.proofs.Proper.{all_proper}
@@ -23,33 +23,33 @@ use Rattle.archive.proofs.Blocks.{length_archive, proper_short}
 use Rattle.archive.proofs.Archive.{archive_injective, writes_archive, check_passes}
 use Rattle.agreement.specs.Agreement.{Disk, flat, nibbles, OfBytes, contents_in, contents_of, EqualContents, ImageOf, Agreement}
 
--- where denibblize gave no number, what it wrote is the stream's image
-pub wrote_image : (ed : Edition) (s before after e : List ℕ) (r : Handed) → Hands (image ed s) before after r → r.refusal ≡ 0 → e ≡ take r.length after → image ed s ≡ given e
-wrote_image ed s before after e r h z t =
-    let g = hands_given h z in
+-- where denibblize did not refuse, what it wrote is the stream's image
+pub wrote_image : (ed : Edition) (s before after e : List ℕ) (n : ℕ) → Hands (image ed s) before after (Ok n) → e ≡ take n after → image ed s ≡ Ok e
+wrote_image ed s before after e n h t =
+    let g = hands_given n h refl in
     let w : List ℕ = g.0 in
-    let a : r ≡ accepted_with (length w) = h.answer ∙ rw (handed_fits (image ed s) before g.1 g.2) refl in
-    let l : length w ≡ r.length = sym (ap (λ (x : Handed). x.length) a) in
-    let f : take r.length after ≡ w = ap (take r.length) g.3 ∙ take_at w (drop (length w) before) r.length l in
-    g.1 ∙ ap given (sym (t ∙ f))
+    let a : Ok n ≡ Ok (length w) = h.answer ∙ rw (handed_fits (image ed s) before g.1 g.2) refl in
+    let l : length w ≡ n = cc in
+    let f : take n after ≡ w = ap (take n) g.3 ∙ take_at w (drop (length w) before) n l in
+    g.1 ∙ ap Ok (sym (t ∙ f))
 
 -- what writer and checker are handed has the disk's contents ..
 same_contents : (a : Disk) (d : List ℕ) → ImageOf a d → contents_of a ≡ contents_in d
 same_contents (flat x) d h = ap contents_in h
-same_contents (nibbles ed s) d h = rw (wrote_image ed s h.0 h.1 d h.2 h.3 h.4 h.5) refl
+same_contents (nibbles ed s) d h = rw (wrote_image ed s h.0 h.1 d h.2 h.3 h.4) refl
 
 -- .. and is bytes
 image_bytes : (a : Disk) (d : List ℕ) → OfBytes a → ImageOf a d → Bytes d
 image_bytes (flat x) d b h = rw h at b
-image_bytes (nibbles ed s) d b h = (sized_image ed s d (wrote_image ed s h.0 h.1 d h.2 h.3 h.4 h.5)).1
+image_bytes (nibbles ed s) d b h = (sized_image ed s d (wrote_image ed s h.0 h.1 d h.2 h.3 h.4)).1
 
 -- the files of a disk of bytes are proper
-proper : (a : Disk) (d : List ℕ) → OfBytes a → ImageOf a d → (c : Contents) → contents_of a ≡ given c → Every Proper c.files
+proper : (a : Disk) (d : List ℕ) → OfBytes a → ImageOf a d → (c : Contents) → contents_of a ≡ Ok c → Every Proper c.files
 proper a d b h c e = all_proper (per_of d) d (image_bytes a d b h) c (sym (same_contents a d h) ∙ e)
 
 -- passed: these are the archive of the disk's contents
 passed_is : (a : Disk) (d w : List ℕ) → ImageOf a d
-    → (number (check (per_of d) d w) ≡ 0) ↔ ((c : Contents) × (contents_of a ≡ given c) × (blocks c ≤ 4096) × (w ≡ archive c))
+    → (check (per_of d) d w ≡ Ok tt) ↔ ((c : Contents) × (contents_of a ≡ Ok c) × (blocks c ≤ 4096) × (w ≡ archive c))
 passed_is a d w h = (
   (λ k. let i = (check_passes (per_of d) d w).0 k in (i.0, same_contents a d h ∙ i.1, i.2, i.3)),
   λ i. (check_passes (per_of d) d w).1 (i.0, sym (same_contents a d h) ∙ i.1, i.2, i.3),
@@ -57,7 +57,7 @@ passed_is a d w h = (
 
 -- two disks with one archive have equal contents
 one_archive : (a b : Disk) (d e : List ℕ) → OfBytes a → OfBytes b → ImageOf a d → ImageOf b e
-    → (c c' : Contents) → contents_of a ≡ given c → contents_of b ≡ given c' → blocks c ≤ 4096 → blocks c' ≤ 4096 → archive c ≡ archive c'
+    → (c c' : Contents) → contents_of a ≡ Ok c → contents_of b ≡ Ok c' → blocks c ≤ 4096 → blocks c' ≤ 4096 → archive c ≡ archive c'
     → EqualContents a b
 one_archive a b d e o u h k c c' p q l m eq =
     let i = archive_injective c c' (proper a d o h c p) (proper b e u k c' q) l m eq in
@@ -76,16 +76,14 @@ agreement =
       own = λ a o d h c p l before after r room k.
           let long : length (archive c) ≡ 256 * blocks c = length_archive c (proper_short (proper a d o h c p)) in
           let w = (writes_archive (per_of d) d (archive c)).1 (c, sym (same_contents a d h) ∙ p, l, refl) in
-          let g : handed (archive_of (per_of d) d) before ≡ given (archive c) = handed_fits (archive_of (per_of d) d) before w (omega arith) in
-          let n : r ≡ accepted_with (length (archive c)) = rw g at k.answer in
-          let size : r.length ≡ length (archive c) = ap (λ (x : Handed). x.length) n in
-          let f : take r.length after ≡ archive c =
-          ap (take r.length) (hands_left (archive c) k w (omega arith)) ∙ take_at (archive c) _ r.length (sym size) in (
-            ap (λ (x : Handed). x.refusal) n,
-            size ∙ long,
+          let g : handed (archive_of (per_of d) d) before ≡ Ok (archive c) = handed_fits (archive_of (per_of d) d) before w (omega arith) in
+          let n : r ≡ Ok (length (archive c)) = rw g at k.answer in
+          let f : take (256 * blocks c) after ≡ archive c =
+          ap (take (256 * blocks c)) (hands_left (archive c) k w (omega arith)) ∙ take_at (archive c) _ (256 * blocks c) long in (
+            n ∙ ap Ok long,
             λ b u e j m t. (
-              (λ z. let y = (passed_is b e (take r.length after) j).0 (sym t ∙ z) in one_archive a b d e o u h j c y.0 p y.1 l y.2 (sym f ∙ y.3)),
-              λ s. t ∙ (passed_is b e (take r.length after) j).1 (c, cc (p, s.1, s.2), l, f),
+              (λ z. let y = (passed_is b e (take (256 * blocks c) after) j).0 (sym t ∙ z) in one_archive a b d e o u h j c y.0 p y.1 l y.2 (sym f ∙ y.3)),
+              λ s. t ∙ (passed_is b e (take (256 * blocks c) after) j).1 (c, cc (p, s.1, s.2), l, f),
             ),
           );
     }

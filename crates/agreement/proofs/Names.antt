@@ -11,8 +11,9 @@ use borrow.Author.Tests.{ne_eqb}
 use Rattle.lists.specs.Same.{same}
 use Rattle.lists.specs.Fill.{padded, tab, below}
 use Rattle.lists.specs.Select.{all, filter, take_while, among}
+use Rattle.std.specs.Prelude.{Ok, Err}
 use Rattle.outcome.specs.declared.Refusal.TheVariants.{BadLetter}
-use Rattle.outcome.specs.Outcome.{Outcome, refused, given, each}
+use Rattle.outcome.specs.Outcome.{Outcome, each}
 use Rattle.disk.specs.Disk.{place, on_disk, sized, per_of}
 use Rattle.disk.specs.Vtoc.{one_of, valid_table, tabled, readable}
 use Rattle.disk.specs.Chain.{walk}
@@ -47,8 +48,8 @@ only b = record { kind = 4; locked = 0; raw = cut b; count = 1; bytes = [] }
 
 -- the first name byte of the first file
 abbrev name_byte : Outcome Contents → ℕ
-name_byte (refused r) = 0
-name_byte (given c) = elim c.files [ [] ↦ 0 | f ∷ fs ↦ get_or f.raw 0 0 ]
+name_byte (Err r) = 0
+name_byte (Ok c) = elim c.files [ [] ↦ 0 | f ∷ fs ↦ get_or f.raw 0 0 ]
 
 -- of seven entries the first alone is in use
 one_live : (e : ℕ → Entry) → live (e 0) ≡ true → live (e 1) ≡ false → live (e 2) ≡ false → live (e 3) ≡ false → live (e 4) ≡ false → live (e 5) ≡ false → live (e 6) ≡ false
@@ -77,7 +78,7 @@ module _ (b : ℕ) where
       (arith, length-append (replicate {A = ℕ} 69632 0) (rest b), length-append table (page b ++ z), length-append (page b) z, length-replicate {A = ℕ} 69632 0, length-replicate {A = ℕ} 73216 0)
 
   -- the VTOC
-  table_read : readable 16 (disk b) ≡ given tt
+  table_read : readable 16 (disk b) ≡ Ok tt
   unfolding readable sized tabled valid_table one_of padded
   table_read = rw (disk_long, at 52, at 53) refl
 
@@ -111,7 +112,7 @@ module _ (b : ℕ) where
   last_is = rw (at 257) refl
 
   -- its list is the last too, and has no pair
-  lists_are : list_walk 16 (disk b) (place 18 0) ≡ given (place 18 0 ∷ [])
+  lists_are : list_walk 16 (disk b) (place 18 0) ≡ Ok (place 18 0 ∷ [])
   unfolding list_walk walk on_disk among sound_list whole_link next_list padded
   lists_are = rw (at 4097) refl
 
@@ -120,12 +121,12 @@ module _ (b : ℕ) where
   pairs_are = rw (at 4108) refl
 
   -- the file
-  file_is : file_of 16 (disk b) (entry b) ≡ given (only b)
+  file_is : file_of 16 (disk b) (entry b) ≡ Ok (only b)
   unfolding file_of flat_map all bytes_in
   file_is = rw (lists_are, pairs_are) refl
 
   -- the pages, where the name is plain, and where it is not
-  page_plain : (b ≡ 0x80 → ⊥) → sound_page 16 (disk b) (place 17 1) ≡ given tt
+  page_plain : (b ≡ 0x80 → ⊥) → sound_page 16 (disk b) (place 17 1) ≡ Ok tt
   unfolding sound_page all among
   page_plain h = rw (entries_are, ne_eqb 128 b (λ e. h (sym e))) refl
 
@@ -136,13 +137,13 @@ module _ (b : ℕ) where
   walk_begins : page_walk 16 (disk b) ≡ bare 16 (sound_page 16 (disk b)) (next_page 16 (disk b)) 561 (place 17 1)
   walk_begins = budget 16 _ _ 561 _ ∙ ap (bare 16 (sound_page 16 (disk b)) (next_page 16 (disk b)) 561) first_page_lem
 
-  catalog_is : (b ≡ 0x80 → ⊥) → catalog 16 (disk b) ≡ given (entry b ∷ [])
+  catalog_is : (b ≡ 0x80 → ⊥) → catalog 16 (disk b) ≡ Ok (entry b ∷ [])
   unfolding on_disk flat_map
   catalog_is h =
       pages_give 16 (disk b) (place 17 1 ∷ []) table_read (walk_begins ∙ bare_end 16 _ _ 560 (place 17 1) refl (page_plain h) last_is)
-      ∙ ap (λ (es : List Entry). given (es ++ [])) entries_are
+      ∙ ap (λ (es : List Entry). Ok (es ++ [])) entries_are
 
-  contents_are : (b ≡ 0x80 → ⊥) → contents 16 (disk b) ≡ given (holding b)
+  contents_are : (b ≡ 0x80 → ⊥) → contents 16 (disk b) ≡ Ok (holding b)
   unfolding contents each padded
   contents_are h = rw (catalog_is h, file_is, at 6) refl
 
@@ -151,27 +152,27 @@ module _ (b : ℕ) where
   unfolding per_of
   per_is = rw disk_long refl
 
-  held_is : (b ≡ 0x80 → ⊥) → contents (per_of (disk b)) (disk b) ≡ given (holding b)
+  held_is : (b ≡ 0x80 → ⊥) → contents (per_of (disk b)) (disk b) ≡ Ok (holding b)
   held_is h = rw per_is (contents_are h)
 
-  archived_is : (b ≡ 0x80 → ⊥) → archive_of (per_of (disk b)) (disk b) ≡ given (archive (holding b))
+  archived_is : (b ≡ 0x80 → ⊥) → archive_of (per_of (disk b)) (disk b) ≡ Ok (archive (holding b))
   unfolding archive_of blocks_in
   archived_is h = rw (held_is h) refl
 
 -- one that shows "A" is fetched by it
-fetched_as : (b : ℕ) → (b ≡ 0x80 → ⊥) → shown (cut b) ≡ 0x41 ∷ [] → fetched (per_of (disk b)) (disk b) (0x41 ∷ []) ≡ given []
+fetched_as : (b : ℕ) → (b ≡ 0x80 → ⊥) → shown (cut b) ≡ 0x41 ∷ [] → fetched (per_of (disk b)) (disk b) (0x41 ∷ []) ≡ Ok []
 unfolding fetched last_named same
 fetched_as b h e = rw (held_is b h, e) refl
 
 -- 80h
-page_bad : sound_page 16 (disk 0x80) (place 17 1) ≡ refused BadLetter
+page_bad : sound_page 16 (disk 0x80) (place 17 1) ≡ Err BadLetter
 unfolding sound_page all among
 page_bad = rw (entries_are 0x80) refl
 
-bad_is : contents (per_of (disk 0x80)) (disk 0x80) ≡ refused BadLetter
+bad_is : contents (per_of (disk 0x80)) (disk 0x80) ≡ Err BadLetter
 unfolding contents on_disk
 bad_is =
-    let c : catalog 16 (disk 0x80) ≡ refused BadLetter =
+    let c : catalog 16 (disk 0x80) ≡ Err BadLetter =
     page_refuses 16 (disk 0x80) BadLetter (table_read 0x80) (walk_begins 0x80 ∙ bare_bad 16 _ _ 560 (place 17 1) BadLetter refl page_bad)
     in
     rw (per_is 0x80, c) refl

@@ -8,7 +8,8 @@ use lib.ListN.{length, take, drop, length-take, length-drop}
 use borrow.Author.Tests.{eq-eqb}
 use Rattle.lists.specs.Fill.{padded}
 use Rattle.lists.specs.Words.{word_at}
-use Rattle.outcome.specs.Outcome.{number}
+use Rattle.std.specs.Prelude.{Err}
+use Rattle.outcome.specs.declared.Refusal.TheVariants.{OffDisc}
 use Rattle.disk.specs.Disk.{place, on_disk, sized}
 use Rattle.disk.specs.Vtoc.{percent}
 use Rattle.disk.specs.Window.{sector_in}
@@ -21,7 +22,7 @@ use Rattle.archive.specs.Archive.{archive, first_block, entry_chain}
 use Rattle.agreement.specs.Starred.{Starred as Cases}
 
 -- a place that is off the disk
-off_3 : (d : List ℕ) (t s : ℕ) → length d ≡ 143360 → on_disk 16 (place t s) ≡ false → number (sector_in 16 d (place t s)) ≡ 3
+off_3 : (d : List ℕ) (t s : ℕ) → length d ≡ 143360 → on_disk 16 (place t s) ≡ false → sector_in 16 d (place t s) ≡ Err OffDisc
 unfolding sector_in sized
 off_3 d t s h e = rw (eq-eqb (length d) 143360 h, e) refl
 

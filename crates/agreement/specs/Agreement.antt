@@ -3,8 +3,8 @@
 -- `writer::check_archive`, word for word: the claim speaks of what these were handed, of what they answered and of what they left in the space lent to them, and of nothing else.
 use Rattle.std.specs.Prelude.{◌≡◌, ◌↔◌, List, ℕ, ◌*◌, ◌≤◌, length, take}
 use Rattle.lists.specs.Fill.{Bytes}
-use Rattle.outcome.specs.declared.Handed.{Handed}
-use Rattle.outcome.specs.Outcome.{Outcome, given, ◌>>=◌}
+use Rattle.std.specs.Prelude.{Ok}
+use Rattle.outcome.specs.Outcome.{Outcome, ◌>>=◌}
 use Rattle.files.specs.Contents.{Contents, contents}
 use Rattle.files.specs.Survey.{blocks}
 use Rattle.archive.specs.Archive.{Wrote, Checked}
@@ -33,21 +33,20 @@ contents_of (nibbles ed s) = image ed s >>= contents_in
 
 -- both disks have contents, and these are equal
 abbrev pub EqualContents : Disk → Disk → Type 0
-EqualContents a b = (c : Contents) × (contents_of a ≡ given c) × (contents_of b ≡ given c)
+EqualContents a b = (c : Contents) × (contents_of a ≡ Ok c) × (contents_of b ≡ Ok c)
 
 -- e is what writer and checker are handed for a disk: the flat disk itself, or the bytes that a call of denibblize wrote
 abbrev pub ImageOf : Disk → List ℕ → Type 0
 ImageOf (flat d) e = d ≡ e
-ImageOf (nibbles ed s) e = (before after : List ℕ) × (r : Handed) × Denibblized ed s before after r × (r.refusal ≡ 0) × (e ≡ take r.length after)
+ImageOf (nibbles ed s) e = (before after : List ℕ) × (n : ℕ) × Denibblized ed s before after (Ok n) × (e ≡ take n after)
 
 -- demand 3
 pub record Agreement : Type 0 where
   -- where the checker passes two archives, each against its own disk, the archives are equal exactly when the disks have equal contents
   pub equal : (a b : Disk) → OfBytes a → OfBytes b → (d e : List ℕ) → ImageOf a d → ImageOf b e
-      → (v w : List ℕ) (p q : ℕ) → Checked d v p → Checked e w q → p ≡ 0 → q ≡ 0 → ((v ≡ w) ↔ EqualContents a b)
+      → (v w : List ℕ) (p q : Outcome (Unit {0})) → Checked d v p → Checked e w q → p ≡ Ok tt → q ≡ Ok tt → ((v ≡ w) ↔ EqualContents a b)
   -- what is written into enough lent space is passed against exactly the disks with equal contents
-  pub own : (a : Disk) → OfBytes a → (d : List ℕ) → ImageOf a d → (c : Contents) → contents_of a ≡ given c → blocks c ≤ 4096
-      → (before after : List ℕ) (r : Handed) → 256 * blocks c ≤ length before → Wrote d before after r
-      → (r.refusal ≡ 0)
-      × (r.length ≡ 256 * blocks c)
-      × ((b : Disk) → OfBytes b → (e : List ℕ) → ImageOf b e → (p : ℕ) → Checked e (take r.length after) p → ((p ≡ 0) ↔ EqualContents a b))
+  pub own : (a : Disk) → OfBytes a → (d : List ℕ) → ImageOf a d → (c : Contents) → contents_of a ≡ Ok c → blocks c ≤ 4096
+      → (before after : List ℕ) (r : Outcome ℕ) → 256 * blocks c ≤ length before → Wrote d before after r
+      → (r ≡ Ok (256 * blocks c))
+      × ((b : Disk) → OfBytes b → (e : List ℕ) → ImageOf b e → (p : Outcome (Unit {0})) → Checked e (take (256 * blocks c) after) p → ((p ≡ Ok tt) ↔ EqualContents a b))

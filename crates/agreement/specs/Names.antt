@@ -3,8 +3,8 @@
 use Rattle.std.specs.Prelude.{◌≡◌, false, List, [], ◌∷◌, ◌++◌, ℕ, length, replicate}
 use Rattle.lists.specs.Fill.{padded}
 use Rattle.lists.specs.Select.{among}
+use Rattle.std.specs.Prelude.{Ok, Err}
 use Rattle.outcome.specs.declared.Refusal.TheVariants.{BadLetter}
-use Rattle.outcome.specs.Outcome.{refused, given}
 use Rattle.disk.specs.Disk.{per_of}
 use Rattle.catalog.specs.Catalog.{shown}
 use Rattle.files.specs.Contents.{File, Contents, Proper}
@@ -35,16 +35,16 @@ holding b = record { volume = 254; files = record { kind = 4; locked = 0; raw = 
 pub record Names : Type 0 where
   -- it is a disk of 143,360 bytes, and has these contents; with 80h among the name bytes it is 6
   pub long : (b : ℕ) → length (disk b) ≡ 143360
-  pub held : (b : ℕ) → (b ≡ 0x80 → ⊥) → contents_of (flat (disk b)) ≡ given (holding b)
-  pub bad : contents_of (flat (disk 0x80)) ≡ refused BadLetter
+  pub held : (b : ℕ) → (b ≡ 0x80 → ⊥) → contents_of (flat (disk b)) ≡ Ok (holding b)
+  pub bad : contents_of (flat (disk 0x80)) ≡ Err BadLetter
   -- with C1h and with 41h the same name is shown, ..
   pub alike : (shown (cut 0xC1) ≡ 0x41 ∷ []) × (shown (cut 0x41) ≡ 0x41 ∷ [])
   -- .. by it the file is fetched from both, here one without bytes, ..
-  pub found : (fetched (per_of (disk 0xC1)) (disk 0xC1) (0x41 ∷ []) ≡ given []) × (fetched (per_of (disk 0x41)) (disk 0x41) (0x41 ∷ []) ≡ given [])
+  pub found : (fetched (per_of (disk 0xC1)) (disk 0xC1) (0x41 ∷ []) ≡ Ok []) × (fetched (per_of (disk 0x41)) (disk 0x41) (0x41 ∷ []) ≡ Ok [])
   -- .. the contents are not equal, ..
   pub apart : EqualContents (flat (disk 0xC1)) (flat (disk 0x41)) → ⊥
   -- .. both have an archive, and the archives are not equal
-  pub archived : (b : ℕ) → (b ≡ 0x80 → ⊥) → archive_of (per_of (disk b)) (disk b) ≡ given (archive (holding b))
+  pub archived : (b : ℕ) → (b ≡ 0x80 → ⊥) → archive_of (per_of (disk b)) (disk b) ≡ Ok (archive (holding b))
   pub archives : archive (holding 0xC1) ≡ archive (holding 0x41) → ⊥
   -- no file's name bytes hold 80h, so an archive with 80h among them is the archive of no disk
   pub plain : (f : File) → Proper f → among 0x80 f.raw ≡ false

@@ -1,7 +1,8 @@
 -- The starred cases of document 01, "Trial discs", in its order, as one list of statements about the definitions. proofs/Starred.antt proves them.
 use Rattle.std.specs.Prelude.{◌≡◌, true, List, [], ◌∷◌, ◌++◌, ℕ, length, take, drop, replicate}
 use Rattle.lists.specs.Words.{word_at}
-use Rattle.outcome.specs.Outcome.{number}
+use Rattle.std.specs.Prelude.{Err}
+use Rattle.outcome.specs.declared.Refusal.TheVariants.{OffDisc}
 use Rattle.disk.specs.Disk.{place, on_disk}
 use Rattle.disk.specs.Vtoc.{percent}
 use Rattle.disk.specs.Window.{sector_in}
@@ -37,8 +38,8 @@ pub record Starred : Type 0 where
   pub name_none : length (shown (replicate 30 0xA0)) ≡ 0
   -- 34/15 on disc; 35/0 and 34/16 are 3
   pub place_34_15 : on_disk 16 (place 34 15) ≡ true
-  pub place_35_0 : (d : List ℕ) → length d ≡ 143360 → number (sector_in 16 d (place 35 0)) ≡ 3
-  pub place_34_16 : (d : List ℕ) → length d ≡ 143360 → number (sector_in 16 d (place 34 16)) ≡ 3
+  pub place_35_0 : (d : List ℕ) → length d ≡ 143360 → sector_in 16 d (place 35 0) ≡ Err OffDisc
+  pub place_34_16 : (d : List ℕ) → length d ≡ 143360 → sector_in 16 d (place 34 16) ≡ Err OffDisc
   -- one sector, length 252: 252 bytes; 253: all 256
   pub length_252 : (s : List ℕ) → length s ≡ 256 → word_at s 2 ≡ 252 → (bytes_in 4 s ≡ take 252 (drop 4 s)) × (length (bytes_in 4 s) ≡ 252)
   pub length_253 : (s : List ℕ) → length s ≡ 256 → word_at s 2 ≡ 253 → bytes_in 4 s ≡ s

@@ -12,8 +12,9 @@ use borrow.Author.Tests.{eqb-true, leb-true}
 use Rattle.lists.specs.Fill.{put, padded}
 use Rattle.lists.proofs.Split.{by_test, both_true, clash}
 use Rattle.lists.proofs.Put.{Put, length_put, put_is, put_none, put_more, put_zeros}
+use Rattle.std.specs.Prelude.{Ok, Err}
 use Rattle.outcome.specs.declared.Refusal.TheVariants.{NoSpace}
-use Rattle.outcome.specs.Outcome.{Outcome, refused, given}
+use Rattle.outcome.specs.Outcome.{Outcome}
 use Rattle.outcome.proofs.Outcome.{refused_given}
 use Rattle.disk.specs.declared.Place.{Place}
 use Rattle.disk.specs.Disk.{start, bytes_of, sectors}
@@ -73,20 +74,20 @@ module _ (d : List ℕ) (size : length d ≡ 256 * sectors 16) where
   over T = with_table 16 (omega arith) d size T
 
   -- one sector
-  one_none : (T : List ℕ) (later : Bool) → length T ≡ 256 → seek_in T later ≡ none → take_one 16 later (over T) ≡ refused NoSpace
+  one_none : (T : List ℕ) (later : Bool) → length T ≡ 256 → seek_in T later ≡ none → take_one 16 later (over T) ≡ Err NoSpace
   unfolding take_one
   one_none T later l e = rw (table_seek d size T l later, e) refl
 
-  one_some : (T : List ℕ) (later : Bool) (q : Spot) → length T ≡ 256 → seek_in T later ≡ some q → take_one 16 later (over T) ≡ given (q.place, over (taken_in 16 T q))
+  one_some : (T : List ℕ) (later : Bool) (q : Spot) → length T ≡ 256 → seek_in T later ≡ some q → take_one 16 later (over T) ≡ Ok (q.place, over (taken_in 16 T q))
   unfolding take_one
   one_some T later q l e =
       rw (table_seek d size T l later, e)
-      (ap (λ (x : List ℕ). given (q.place, x)) (table_taken 16 (omega arith) d size T l q (on_track 16 q.place (seek_on T later q e))))
+      (ap (λ (x : List ℕ). Ok (q.place, x)) (table_taken 16 (omega arith) d size T l q (on_track 16 q.place (seek_on T later q e))))
 
   -- what a run comes to, from the places P with i of them kept
   record Ran (i : ℕ) (P : List ℕ) (o : Outcome (List Place × List ℕ)) (a : Allotment) : Type 0 where
-    none' : a.found ≡ false → o ≡ refused NoSpace
-    all' : a.found ≡ true → (ps : List Place) × (o ≡ given (ps, over a.table)) × Put (2 * i) (flat_map place_bytes ps) P a.places
+    none' : a.found ≡ false → o ≡ Err NoSpace
+    all' : a.found ≡ true → (ps : List Place) × (o ≡ Ok (ps, over a.table)) × Put (2 * i) (flat_map place_bytes ps) P a.places
 
   ran_same : (i : ℕ) (P : List ℕ) {o o' : Outcome (List Place × List ℕ)} {a a' : Allotment} → o ≡ o' → a ≡ a' → Ran i P o' a' → Ran i P o a
   ran_same i P p q r = rw (p, q) r
@@ -149,17 +150,17 @@ module _ (d : List ℕ) (size : length d ≡ 256 * sectors 16) where
         (λ j k. let z : i + suc j ≡ suc i + j = omega arith in b (suc j) (omega arith) ∙ ap later_at z))
 
 -- ---- the sectors of a save, as runs and as parts
-row_refused : (o : Outcome (List Part × List ℕ)) → in_row o ≡ refused NoSpace → o ≡ refused NoSpace
-row_refused (refused q) e = let z : q ≡ NoSpace = cc in ap refused z
-row_refused (given r) e = absurd (refused_given (sym e))
+row_refused : (o : Outcome (List Part × List ℕ)) → in_row o ≡ Err NoSpace → o ≡ Err NoSpace
+row_refused (Err q) e = let z : q ≡ NoSpace = cc in ap Err z
+row_refused (Ok r) e = absurd (refused_given (sym e))
 
-row_given : (o : Outcome (List Part × List ℕ)) (ps : List Place) (x : List ℕ) → in_row o ≡ given (ps, x)
-    → (gs : List Part) × (o ≡ given (gs, x)) × (sectors_in gs ≡ ps)
-row_given (refused q) ps x e = absurd (refused_given e)
-row_given (given r) ps x e =
+row_given : (o : Outcome (List Part × List ℕ)) (ps : List Place) (x : List ℕ) → in_row o ≡ Ok (ps, x)
+    → (gs : List Part) × (o ≡ Ok (gs, x)) × (sectors_in gs ≡ ps)
+row_given (Err q) ps x e = absurd (refused_given e)
+row_given (Ok r) ps x e =
     let w : ◌≡◌ {A = List Place × List ℕ} (sectors_in r.0, r.1) (ps, x) = cc in
     let z : r.1 ≡ x = ap (λ (y : List Place × List ℕ). y.1) w in
-    (r.0, ap (λ (y : List ℕ). given (r.0, y)) z, ap (λ (y : List Place × List ℕ). y.0) w)
+    (r.0, ap (λ (y : List ℕ). Ok (r.0, y)) z, ap (λ (y : List Place × List ℕ). y.0) w)
 
 -- sector i is a later list where its flag says so
 flag_is : (k i : ℕ) → i < lists_for (data_for k) + data_for k → get_or (flags (lists_for (data_for k)) (data_for k) false) i false ≡ later_at i
@@ -197,19 +198,19 @@ module _ (d : List ℕ) (size : length d ≡ 256 * sectors 16) (k m n : ℕ) (T 
   is_all = h.is ∙ sym (all_is m T P long wide)
 
   -- not all were found
-  pub allotted_none : r ≡ false → take_for 16 k d ≡ refused NoSpace
+  pub allotted_none : r ≡ false → take_for 16 k d ≡ Err NoSpace
   allotted_none e = row_refused (take_for 16 k d) (ran.none' (sym (ap (λ (a : Allotment). a.found) is_all) ∙ e))
 
   -- all were: their places, as pairs of bytes with zeros behind them, and the disk with the table after
   pub allotted_all : r ≡ true
-      → (gs : List Part) × (take_for 16 k d ≡ given (gs, put (start 16 vtoc) T' d)) × (P' ≡ padded n (flat_map place_bytes (sectors_in gs))) × (length T' ≡ 256)
+      → (gs : List Part) × (take_for 16 k d ≡ Ok (gs, put (start 16 vtoc) T' d)) × (P' ≡ padded n (flat_map place_bytes (sectors_in gs))) × (length T' ≡ 256)
   allotted_all e =
       let s = ran.all' (sym (ap (λ (a : Allotment). a.found) is_all) ∙ e) in
       let g = row_given (take_for 16 k d) s.0 (over d size (take_all m T P).table) s.1 in
       let t : (take_all m T P).table ≡ T' = sym (ap (λ (a : Allotment). a.table) is_all) in
       let p : P' ≡ (take_all m T P).places = ap (λ (a : Allotment). a.places) is_all in (
         g.0,
-        g.1 ∙ ap (λ (x : List ℕ). given (g.0, put (start 16 vtoc) x d)) t,
+        g.1 ∙ ap (λ (x : List ℕ). Ok (g.0, put (start 16 vtoc) x d)) t,
         p ∙ put_zeros n blank s.2 ∙ ap (λ (ps : List Place). padded n (flat_map place_bytes ps)) (sym g.2),
         table_long m T P T' P' r h ∙ long,
       )

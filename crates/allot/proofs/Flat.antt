@@ -9,7 +9,8 @@ use lib.Seq.{get_or-append-add}
 use lib.Dec.{eqb}
 use borrow.Author.Tests.{ne_eqb}
 use Rattle.lists.proofs.Split.{by_lt}
-use Rattle.outcome.specs.Outcome.{Outcome, refused, given, ◌>>=◌}
+use Rattle.std.specs.Prelude.{Ok, Err}
+use Rattle.outcome.specs.Outcome.{Outcome, ◌>>=◌}
 use Rattle.disk.specs.declared.Place.{Place}
 use Rattle.files.specs.Contents.{max_pairs}
 use Rattle.amend.specs.Search.{take_one}
@@ -17,8 +18,8 @@ use Rattle.amend.specs.Save.{Part, sectors_in, take_data, take_parts, take_for, 
 
 -- one sector for each flag, a flag being `later`
 unfoldable pub take_run : ℕ → List Bool → List ℕ → Outcome (List Place × List ℕ)
-take_run n [] d = given ([], d)
-take_run n (b ∷ bs) d = take_one n b d >>= λ r. take_run n bs r.1 >>= λ s. given (r.0 ∷ s.0, s.1)
+take_run n [] d = Ok ([], d)
+take_run n (b ∷ bs) d = take_one n b d >>= λ r. take_run n bs r.1 >>= λ s. Ok (r.0 ∷ s.0, s.1)
 
 -- the flags of k lists for m data sectors
 unfoldable pub flags : (k m : ℕ) (later : Bool) → List Bool
@@ -31,44 +32,44 @@ Run = Outcome (List Place × List ℕ)
 
 -- a run with these sectors in front
 abbrev join_to : List Place → Run → Run
-join_to ps o = o >>= λ s. given (ps ++ s.0, s.1)
+join_to ps o = o >>= λ s. Ok (ps ++ s.0, s.1)
 
 joins : (p : Place) (ps : List Place) (o : Run) → join_to (p ∷ []) (join_to ps o) ≡ join_to (p ∷ ps) o
-joins p ps (refused q) = refl
-joins p ps (given s) = refl
+joins p ps (Err q) = refl
+joins p ps (Ok s) = refl
 
 -- one run behind another
 abbrev behind : (List ℕ → Run) → Run → Run
 behind f o = o >>= λ r. join_to r.0 (f r.1)
 
 front_behind : (f : List ℕ → Run) (p : Place) (o : Run) → join_to (p ∷ []) (behind f o) ≡ behind f (join_to (p ∷ []) o)
-front_behind f p (refused q) = refl
-front_behind f p (given r) = joins p r.0 (f r.1)
+front_behind f p (Err q) = refl
+front_behind f p (Ok r) = joins p r.0 (f r.1)
 
 -- the first sector, and the others
 abbrev first : Outcome (Place × List ℕ) → (List ℕ → Run) → Run
 first o f = o >>= λ r. join_to (r.0 ∷ []) (f r.1)
 
 first_same : (o : Outcome (Place × List ℕ)) (f g : List ℕ → Run) → ((d : List ℕ) → f d ≡ g d) → first o f ≡ first o g
-first_same (refused q) f g h = refl
-first_same (given r) f g h = ap (join_to (r.0 ∷ [])) (h r.1)
+first_same (Err q) f g h = refl
+first_same (Ok r) f g h = ap (join_to (r.0 ∷ [])) (h r.1)
 
 first_behind : (o : Outcome (Place × List ℕ)) (f g : List ℕ → Run) → first o (λ d. behind g (f d)) ≡ behind g (first o f)
-first_behind (refused q) f g = refl
-first_behind (given r) f g = front_behind g r.0 (f r.1)
+first_behind (Err q) f g = refl
+first_behind (Ok r) f g = front_behind g r.0 (f r.1)
 
 -- the sectors of parts, in the order in which they were taken
 abbrev pub in_row : Outcome (List Part × List ℕ) → Outcome (List Place × List ℕ)
-in_row o = o >>= λ r. given (sectors_in r.0, r.1)
+in_row o = o >>= λ r. Ok (sectors_in r.0, r.1)
 
 -- a part in front of others
 abbrev with_part : Part → Outcome (List Part × List ℕ) → Outcome (List Part × List ℕ)
-with_part g o = o >>= λ t. given (g ∷ t.0, t.1)
+with_part g o = o >>= λ t. Ok (g ∷ t.0, t.1)
 
 part_row : (g : Part) (o : Outcome (List Part × List ℕ)) → in_row (with_part g o) ≡ join_to (g.list ∷ g.pairs) (in_row o)
 unfolding flat_map
-part_row g (refused q) = refl
-part_row g (given t) = refl
+part_row g (Err q) = refl
+part_row g (Ok t) = refl
 
 module _ (n : ℕ) where
   -- data sectors
@@ -83,8 +84,8 @@ module _ (n : ℕ) where
   run_append [] ys d = go (take_run n ys d)
     where
       go : (o : Run) → o ≡ join_to [] o
-      go (refused q) = refl
-      go (given s) = refl
+      go (Err q) = refl
+      go (Ok s) = refl
   run_append (x ∷ xs) ys d =
       first_same (take_one n x d) (take_run n (xs ++ ys)) (λ e. behind (take_run n ys) (take_run n xs e)) (run_append xs ys)
       ∙ first_behind (take_one n x d) (take_run n xs) (take_run n ys)
@@ -94,16 +95,16 @@ module _ (n : ℕ) where
     with_data_lem : (l : Place) (o : Run)
         → in_row (o >>= λ s. with_part (record { list = l; pairs = s.0 }) (take_parts n k (m - max_pairs) true s.1))
         ≡ join_to (l ∷ []) (behind (take_run n (flags k (m - max_pairs) true)) o)
-    with_data_lem l (refused q) = refl
-    with_data_lem l (given s) =
+    with_data_lem l (Err q) = refl
+    with_data_lem l (Ok s) =
         part_row (record { list = l; pairs = s.0 }) (take_parts n k (m - max_pairs) true s.1) ∙ ap (join_to (l ∷ s.0)) (ih s.1)
         ∙ sym (joins l s.0 (take_run n (flags k (m - max_pairs) true) s.1))
 
     with_list : (o : Outcome (Place × List ℕ))
         → in_row (o >>= λ r. take_data n (min max_pairs m) r.1 >>= λ s. with_part (record { list = r.0; pairs = s.0 }) (take_parts n k (m - max_pairs) true s.1))
         ≡ first o (take_run n (replicate (min max_pairs m) false ++ flags k (m - max_pairs) true))
-    with_list (refused q) = refl
-    with_list (given r) =
+    with_list (Err q) = refl
+    with_list (Ok r) =
         with_data_lem r.0 (take_data n (min max_pairs m) r.1)
         ∙ ap (join_to (r.0 ∷ []))
         (ap (behind (take_run n (flags k (m - max_pairs) true))) (data_run (min max_pairs m) r.1)

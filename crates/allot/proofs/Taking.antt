@@ -3,6 +3,9 @@ use mathlib.Core.Path.{◌≡◌, refl, sym, ap, ◌∙◌}
 use mathlib.Core.Bool.{Bool, true, false, not, ◌&&◌}
 use mathlib.Core.List.{List, [], ◌∷◌}
 use mathlib.Core.Option.{Option, none, some}
+use Rattle.std.specs.Prelude as rust
+use Rattle.std.specs.Prelude.{Some, None, is_some, unwrap_or}
+use Rattle.outcome.proofs.Outcome.{some_none}
 use Prim.Native.Nat.{ℕ, zero, suc, ◌+◌, ◌*◌, ◌/◌, ◌%◌, ◌^◌, ◌<◌, ◌≤◌}
 use native.Mathlib.Numerals.{add-one}
 use native.Mathlib.Omega.{arith}
@@ -11,7 +14,7 @@ use lib.Dec.{eqb}
 use borrow.Author.Rules.{rules}
 use borrow.Author.Tests.{eq-eqb, ne_eqb, le-leb, lt-leb, not-true, not-false}
 use Rattle.lists.specs.Fill.{put, placed}
-use Rattle.lists.proofs.Split.{by_lt, clash}
+use Rattle.lists.proofs.Split.{by_lt}
 use Rattle.lists.proofs.Put.{length_put, placed_put}
 use Rattle.disk.specs.Disk.{on_disk}
 use Rattle.disk.proofs.Places.{on_track}
@@ -41,25 +44,18 @@ taken_from T T₁ T₂ q l on a b =
     let k : length T₁ ≡ 256 = ap length m ∙ length_marked 16 T 0 q.place l (on_track 16 q.place on) in
     (placed_put b (omega arith)).is ∙ ap (put 48 (q.place.track.0 ∷ q.direction ∷ [])) m
 
-took_some' : (T T₁ T₂ : List ℕ) (later : Bool) (q : Found) (o : Option Spot) → o ≡ seek_in T later → q ≡ as_found o → q.found ≡ true → Marked 0 q.place T T₁
+took_some' : (T T₁ T₂ : List ℕ) (later : Bool) (q : Found) (o : Option Spot) → o ≡ seek_in T later → Some q ≡ as_found o → Marked 0 q.place T T₁
     → T₂ ≡ placed 48 (q.place.track.0 ∷ q.direction ∷ []) T₁ → length T ≡ 256 → T₂ ≡ after_seek T o
-took_some' T T₁ T₂ later q none e i f m p l = absurd (clash (sym (ap (λ (x : Found). x.found) i) ∙ f))
-took_some' T T₁ T₂ later q (some s) e i f m p l =
-    taken_from T T₁ T₂ s l (seek_on T later s (sym e)) (m.is ∙ ap (λ (x : Found). mark_on T 0 x.place) i)
-    (p ∙ ap (λ (x : Found). placed 48 (x.place.track.0 ∷ x.direction ∷ []) T₁) i)
+took_some' T T₁ T₂ later q none e i m p l = absurd (some_none i)
+took_some' T T₁ T₂ later q (some s) e i m p l =
+    taken_from T T₁ T₂ s l (seek_on T later s (sym e)) (m.is ∙ ap (λ x. mark_on T 0 (unwrap_or x q).place) i)
+    (p ∙ ap (λ x. placed 48 ((unwrap_or x q).place.track.0 ∷ (unwrap_or x q).direction ∷ []) T₁) i)
 
-took_none' : (T : List ℕ) (q : Found) (o : Option Spot) → q ≡ as_found o → q.found ≡ false → T ≡ after_seek T o
-took_none' T q none i f = refl
-took_none' T q (some s) i f = absurd (clash (sym f ∙ ap (λ (x : Found). x.found) i))
+pub took_some : (T T₁ T₂ : List ℕ) (later : Bool) (f : rust.Option Found) (q : Found) → Sought T later f → f ≡ Some q → Marked 0 q.place T T₁
+    → T₂ ≡ placed 48 (q.place.track.0 ∷ q.direction ∷ []) T₁ → length T ≡ 256 → Took T T₂ later (Some q)
+took_some T T₁ T₂ later f q h e m p l = record { is = sym e ∙ h.is; table = took_some' T T₁ T₂ later q (seek_in T later) refl (sym e ∙ h.is) m p l }
 
-pub took_some : (T T₁ T₂ : List ℕ) (later : Bool) (q : Found) → Sought T later q → q.found ≡ true → Marked 0 q.place T T₁
-    → T₂ ≡ placed 48 (q.place.track.0 ∷ q.direction ∷ []) T₁ → length T ≡ 256 → Took T T₂ later q
-took_some T T₁ T₂ later q h f m p l = record { is = h.is; table = took_some' T T₁ T₂ later q (seek_in T later) refl h.is f m p l }
-
-pub took_none : (T : List ℕ) (later : Bool) (q : Found) → Sought T later q → q.found ≡ false → Took T T later q
-took_none T later q h f = record { is = h.is; table = took_none' T q (seek_in T later) h.is f }
-
-pub ruleset taking_one = (took_some, took_none, rules)
+pub ruleset taking_one = (took_some, rules)
 
 -- ---- the sectors, i of m taken
 pub record Taking (m : ℕ) (T₀ P₀ : List ℕ) (i : ℕ) (T P : List ℕ) : Type 0 where
@@ -84,29 +80,29 @@ unfolding allotted
 take_narrow m T P l h = record { is = rw (eq-eqb _ _ l, lt-leb (2 * m) (length P) (omega arith)) refl }
 
 -- one more
-spot_some : (i : ℕ) (T P T' P' : List ℕ) (q : Found) (o : Option Spot) → q ≡ as_found o → q.found ≡ true → T' ≡ after_seek T o
+spot_some : (i : ℕ) (T P T' P' : List ℕ) (q : Found) (o : Option Spot) → Some q ≡ as_found o → T' ≡ after_seek T o
     → P' ≡ put (2 * i) (q.place.track.0 ∷ q.place.sector.0 ∷ []) P → with_spot i T P o ≡ record { found = true; table = T'; places = P' }
-spot_some i T P T' P' q none e f t p = absurd (clash (sym (ap (λ (x : Found). x.found) e) ∙ f))
-spot_some i T P T' P' q (some s) e f t p =
-    let z : put (2 * i) (place_bytes s.place) P ≡ P' = sym (p ∙ ap (λ (x : Found). put (2 * i) (place_bytes x.place) P) e) in
+spot_some i T P T' P' q none e t p = absurd (some_none e)
+spot_some i T P T' P' q (some s) e t p =
+    let z : put (2 * i) (place_bytes s.place) P ≡ P' = sym (p ∙ ap (λ x. put (2 * i) (place_bytes (unwrap_or x q).place) P) e) in
     let y : taken_in 16 T s ≡ T' = sym t in
     λ j. record { found = true; table = y j; places = z j }
 
-spot_none : (i : ℕ) (T P T' : List ℕ) (q : Found) (o : Option Spot) → q ≡ as_found o → q.found ≡ false → T' ≡ after_seek T o
+spot_none : (i : ℕ) (T P T' : List ℕ) (o : Option Spot) → None ≡ as_found o → T' ≡ after_seek T o
     → with_spot i T P o ≡ record { found = false; table = T'; places = P }
-spot_none i T P T' q none e f t = let y : T ≡ T' = sym t in λ j. record { found = false; table = y j; places = P }
-spot_none i T P T' q (some s) e f t = absurd (clash (sym f ∙ ap (λ (x : Found). x.found) e))
+spot_none i T P T' none e t = let y : T ≡ T' = sym t in λ j. record { found = false; table = y j; places = P }
+spot_none i T P T' (some s) e t = absurd (some_none (sym e))
 
 next_is : (m : ℕ) (T₀ P₀ : List ℕ) (i : ℕ) (T P : List ℕ) (b : Bool) → Taking m T₀ P₀ i T P → b ≡ later_at i → take_all (suc i) T₀ P₀ ≡ with_spot i T P (seek_in T b)
 unfolding take_all
 next_is m T₀ P₀ i T P b t e = ap (take_next i) t.is ∙ ap (λ (x : Bool). with_spot i T P (seek_in T x)) (sym e)
 
-pub take_more : (m : ℕ) (T₀ P₀ : List ℕ) (i : ℕ) (T P T' P' : List ℕ) (b : Bool) (q : Found) → Taking m T₀ P₀ i T P → i < m → Took T T' b q → q.found ≡ true
+pub take_more : (m : ℕ) (T₀ P₀ : List ℕ) (i : ℕ) (T P T' P' : List ℕ) (b : Bool) (f : rust.Option Found) (q : Found) → Taking m T₀ P₀ i T P → i < m → Took T T' b f → f ≡ Some q
     → b ≡ (not (eqb i 0) && eqb (i % 123) 0) → P' ≡ placed (2 * i) (q.place.track.0 ∷ q.place.sector.0 ∷ []) P → Taking m T₀ P₀ (i + 1) T' P'
-take_more m T₀ P₀ i T P T' P' b q t h k f e p =
+take_more m T₀ P₀ i T P T' P' b f q t h k v e p =
     let w = placed_put p (omega (arith, t.room, t.space)) in
     let s : take_all (i + 1) T₀ P₀ ≡ record { found = true; table = T'; places = P' } =
-    rw (add-one i) (next_is m T₀ P₀ i T P b t e ∙ spot_some i T P T' P' q (seek_in T b) k.is f k.table w.is) in
+    rw (add-one i) (next_is m T₀ P₀ i T P b t e ∙ spot_some i T P T' P' q (seek_in T b) (sym v ∙ k.is) k.table w.is) in
     record {
       count = omega arith;
       size = t.size;
@@ -128,10 +124,10 @@ pub all_is : (m : ℕ) (T P : List ℕ) → length T ≡ 256 → 2 * m ≤ lengt
 unfolding allotted
 all_is m T P l h = rw (eq-eqb _ _ l, le-leb (2 * m) (length P) h) refl
 
-pub take_miss : (m : ℕ) (T₀ P₀ : List ℕ) (i : ℕ) (T P T' : List ℕ) (b : Bool) (q : Found) → Taking m T₀ P₀ i T P → i < m → Took T T' b q → q.found ≡ false
+pub take_miss : (m : ℕ) (T₀ P₀ : List ℕ) (i : ℕ) (T P T' : List ℕ) (b : Bool) (f : rust.Option Found) → Taking m T₀ P₀ i T P → i < m → Took T T' b f → f ≡ None
     → b ≡ (not (eqb i 0) && eqb (i % 123) 0) → Allotted m T₀ P₀ T' P false
-take_miss m T₀ P₀ i T P T' b q t h k f e =
-    let n = next_is m T₀ P₀ i T P b t e ∙ spot_none i T P T' q (seek_in T b) k.is f k.table in
+take_miss m T₀ P₀ i T P T' b f t h k v e =
+    let n = next_is m T₀ P₀ i T P b t e ∙ spot_none i T P T' (seek_in T b) (sym v ∙ k.is) k.table in
     record { is = sym (stays T₀ P₀ m (suc i) _ (omega arith) n refl) ∙ all_is m T₀ P₀ t.size t.room }
 
 pub take_done : (m : ℕ) (T₀ P₀ : List ℕ) (i : ℕ) (T P : List ℕ) → Taking m T₀ P₀ i T P → m ≤ i → Allotted m T₀ P₀ T P true

@@ -5,15 +5,14 @@ ghost use Rattle.std.specs.Prelude.{◌≡◌, cond, not, ◌&&◌, ◌<◌, ◌
 ghost use Rattle.holders.specs.Holders.{bit};
 ghost use Rattle.amend.specs.Search.{with_bit, track_of};
 ghost use Rattle.allot.specs.Table.{map_in, open_in, later_at, Marked, Allotted};
-ghost use Rattle.allot.specs.Steps.{found_at, nothing, MadeBit, Topped, Legged, Sought, Took};
+ghost use Rattle.allot.specs.Steps.{found_at, MadeBit, Topped, Legged, Sought, Took};
 
 use disk::{Place, Sector, Track, on_disk};
 use lists::{byte_at, copy_at};
 
 // What a search comes to: the sector, and the direction in which it moved.
-#[derive(Clone, Copy)]
+#[derive(Clone, Copy, Debug, PartialEq, Eq)]
 struct Found {
-    found: bool,
     place: Place,
     direction: u8,
 }
@@ -51,10 +50,7 @@ fn mark_in(table: &mut [u8], p: Place, v: u16)
 fn bit_of(free: bool) -> u16
     ensures { result ≡ cond free 1 0 }
 {
-    if free {
-        return 1;
-    }
-    0
+    if free { 1 } else { 0 }
 }
 
 // Makes a sector's map bit 1 or 0; nothing where the table has not 256 bytes or the place is not on the disk.
@@ -84,26 +80,23 @@ fn can_take(w: u16, s: u8, later: bool) -> bool
     ((w >> s) % 2 == 1) & !(later & (s == 0))
 }
 
-// The highest sector of a track that can be taken, plus 1; 0 where there is none.
-fn top_sector(table: &[u8], later: bool, t: u8) -> u8
+// The highest sector of a track that can be taken.
+fn top_sector(table: &[u8], later: bool, t: u8) -> Option<u8>
     ensures { Topped table.now later t result }
 {
     if !is_open(table, t) {
-        return 0;
+        return None;
     }
     let w = map_of(table, t);
-    let mut k: u8 = 16;
-    while 0 < k {
-        let s = k - 1;
+    for s in (0..16u8).rev() {
         if can_take(w, s, later) {
-            return s + 1;
+            return Some(s);
         }
-        k -= 1;
     }
-    0
+    None
 }
 
-// A search that finds a sector.
+// A sector that is found.
 fn found_at(t: u8, s: u8, direction: u8) -> Found
     ensures { result ≡ found_at t s direction }
 {
@@ -111,62 +104,39 @@ fn found_at(t: u8, s: u8, direction: u8) -> Found
         track: Track(t),
         sector: Sector(s),
     };
-    Found {
-        found: true,
-        place,
-        direction,
-    }
-}
-
-// A search that finds none.
-fn nothing() -> Found
-    ensures { result ≡ nothing }
-{
-    let place = Place {
-        track: Track(0),
-        sector: Sector(0),
-    };
-    Found {
-        found: false,
-        place,
-        direction: 0,
-    }
+    Found { place, direction }
 }
 
 // Searches the tracks from `first` up to 34.
-fn leg_up(table: &[u8], later: bool, first: u8) -> Found
+fn leg_up(table: &[u8], later: bool, first: u8) -> Option<Found>
     ensures { Legged table.now later 1 first result }
 {
-    let mut t = first;
-    while t < 35 {
-        let k = top_sector(table, later, t);
-        if k != 0 {
-            return found_at(t, k - 1, 1);
+    for t in first..35 {
+        if let Some(s) = top_sector(table, later, t) {
+            return Some(found_at(t, s, 1));
         }
-        t += 1;
     }
-    nothing()
+    None
 }
 
 // Searches the tracks from `first` down to 0.
-fn leg_down(table: &[u8], later: bool, first: u8) -> Found
+fn leg_down(table: &[u8], later: bool, first: u8) -> Option<Found>
     ensures { Legged table.now later 255 first result }
 {
     let mut t = first;
     loop {
-        let k = top_sector(table, later, t);
-        if k != 0 {
-            return found_at(t, k - 1, 255);
+        if let Some(s) = top_sector(table, later, t) {
+            return Some(found_at(t, s, 255));
         }
         if t == 0 {
-            return nothing();
+            return None;
         }
         t -= 1;
     }
 }
 
 // Searches the tracks from `first` to the disk's edge.
-fn leg(table: &[u8], later: bool, up: bool, first: u8) -> Found
+fn leg(table: &[u8], later: bool, up: bool, first: u8) -> Option<Found>
     ensures { Legged table.now later (cond up 1 255) first result }
 {
     if up {
@@ -179,41 +149,38 @@ fn leg(table: &[u8], later: bool, up: bool, first: u8) -> Found
 fn last_track(b: u8) -> u8
     ensures { result ≡ track_of b }
 {
-    if b <= 34 {
-        return b;
-    }
-    17
+    if b <= 34 { b } else { 17 }
 }
 
 // The next sector to take: from the last track to the edge, from 17 the other way, then from 17 back.
-fn seek(table: &[u8], later: bool) -> Found
+fn seek(table: &[u8], later: bool) -> Option<Found>
     ensures { Sought table.now later result }
 {
     let up = byte_at(table, 49) != 255;
     let last = last_track(byte_at(table, 48));
     let first = leg(table, later, up, last);
-    if first.found {
+    if first.is_some() {
         return first;
     }
     let second = leg(table, later, !up, 17);
-    if second.found {
+    if second.is_some() {
         return second;
     }
     leg(table, later, up, 17)
 }
 
 // Takes the next sector: its bit is made 0, and last track and direction are kept.
-fn take_one(table: &mut [u8], later: bool) -> Found
+fn take_one(table: &mut [u8], later: bool) -> Option<Found>
     requires { length table.old ≡ 256 }
     ensures { Took table.old table.new later result }
 {
-    let q = seek(table, later);
-    if q.found {
+    let found = seek(table, later);
+    if let Some(q) = found {
         mark_sector(table, q.place, false);
         let last = [q.place.track.0, q.direction];
         copy_at(&last, table, 48);
     }
-    q
+    found
 }
 
 // Sector i of a save is a list after the first.
@@ -233,15 +200,12 @@ pub fn take_sectors(table: &mut [u8], places: &mut [u8], m: usize) -> bool
     if places.len() / 2 < m {
         return false;
     }
-    let mut i: usize = 0;
-    while i < m {
-        let q = take_one(table, later_at(i));
-        if !q.found {
+    for i in 0..m {
+        let Some(q) = take_one(table, later_at(i)) else {
             return false;
-        }
+        };
         let pair = [q.place.track.0, q.place.sector.0];
         copy_at(&pair, places, 2 * i);
-        i += 1;
     }
     true
 }

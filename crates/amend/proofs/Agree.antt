@@ -13,8 +13,9 @@ use Rattle.lists.specs.Fill.{put}
 use Rattle.lists.proofs.Split.{by_lt}
 use Rattle.lists.proofs.Put.{length_put}
 use Rattle.lists.proofs.Every.{every_imp}
+use Rattle.std.specs.Prelude.{Ok, Err}
 use Rattle.outcome.specs.declared.Refusal.TheVariants.{NoSpace}
-use Rattle.outcome.specs.Outcome.{Outcome, refused, given, ◌>>=◌}
+use Rattle.outcome.specs.Outcome.{Outcome, ◌>>=◌}
 use Rattle.disk.specs.declared.Place.{Place}
 use Rattle.disk.specs.Disk.{start, byte_of, sectors}
 use Rattle.disk.specs.Vtoc.{vtoc, map_word}
@@ -59,18 +60,18 @@ agree_put {L} {P} at x d e f a =
 
 -- two answers: refused alike, or the same value and disks that agree
 abbrev pub Both : {A : Type 0} → ℕ → (ℕ → Type 0) → Outcome (A × List ℕ) → Outcome (A × List ℕ) → Type 0
-Both L P (refused r) (refused q) = r ≡ q
-Both L P (refused r) (given b) = ⊥
-Both L P (given a) (refused q) = ⊥
-Both L P (given a) (given b) = (a.0 ≡ b.0) × Agree L P a.1 b.1
+Both L P (Err r) (Err q) = r ≡ q
+Both L P (Err r) (Ok b) = ⊥
+Both L P (Ok a) (Err q) = ⊥
+Both L P (Ok a) (Ok b) = (a.0 ≡ b.0) × Agree L P a.1 b.1
 
 -- one step after another
 both_bind : {A B : Type 0} {L : ℕ} {P : ℕ → Type 0} (o w : Outcome (A × List ℕ)) (f g : A × List ℕ → Outcome (B × List ℕ)) → Both L P o w
     → ((x : A) (d e : List ℕ) → Agree L P d e → Both L P (f (x, d)) (g (x, e))) → Both L P (o >>= f) (w >>= g)
-both_bind (refused r) (refused q) f g h k = h
-both_bind (refused r) (given b) f g h k = absurd h
-both_bind (given a) (refused q) f g h k = absurd h
-both_bind {A} {B} {L} {P} (given a) (given b) f g h k = subst (λ (y : A). Both L P (f a) (g (y, b.1))) h.0 (k a.0 a.1 b.1 h.1)
+both_bind (Err r) (Err q) f g h k = h
+both_bind (Err r) (Ok b) f g h k = absurd h
+both_bind (Ok a) (Err q) f g h k = absurd h
+both_bind {A} {B} {L} {P} (Ok a) (Ok b) f g h k = subst (λ (y : A). Both L P (f a) (g (y, b.1))) h.0 (k a.0 a.1 b.1 h.1)
 
 module _ (n : ℕ) (some' : 0 < n) (P : ℕ → Type 0) (table : (k : ℕ) → k < 256 → P (start n vtoc + k)) where
   abbrev Two : List ℕ → List ℕ → Type 0
@@ -130,13 +131,13 @@ module _ (n : ℕ) (some' : 0 < n) (P : ℕ → Type 0) (table : (k : ℕ) → k
   unfolding take_one
   one_two later d e a = go (seek n d later) refl (seek n e later) (seek_two d e a later)
     where
-      tracked : (q : Spot) → seek n d later ≡ given q → q.place.track.0 < 35
+      tracked : (q : Spot) → seek n d later ≡ Ok q → q.place.track.0 < 35
       tracked q h = on_track n q.place (seek_given n d some' later q h).on
 
       go : (o : Outcome Spot) → seek n d later ≡ o → (w : Outcome Spot) → w ≡ seek n d later
-          → Both (256 * sectors n) P (o >>= λ q. given (q.place, taken n d q)) (w >>= λ q. given (q.place, taken n e q))
-      go (refused r) h w k = rw (k ∙ h) refl
-      go (given q) h w k = rw (k ∙ h) (refl, taken_two d e a q (tracked q h))
+          → Both (256 * sectors n) P (o >>= λ q. Ok (q.place, taken n d q)) (w >>= λ q. Ok (q.place, taken n e q))
+      go (Err r) h w k = rw (k ∙ h) refl
+      go (Ok q) h w k = rw (k ∙ h) (refl, taken_two d e a q (tracked q h))
 
   data_two : (m : ℕ) (d e : List ℕ) → Two d e → Both (256 * sectors n) P (take_data n m d) (take_data n m e)
   unfolding take_data

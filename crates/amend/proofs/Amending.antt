@@ -9,9 +9,10 @@ use native.Mathlib.Omega.{arith}
 use lib.ListN.{length, get_or}
 use Rattle.lists.specs.Every.{Every}
 use Rattle.lists.specs.Fill.{Bytes}
+use Rattle.std.specs.Prelude.{Ok, Err}
 use Rattle.outcome.specs.declared.Refusal.{Refusal}
 use Rattle.outcome.specs.declared.Refusal.TheVariants.{UnwritableName, NoSpace, NameTaken}
-use Rattle.outcome.specs.Outcome.{Outcome, refused, given, ◌>>=◌, ◌>>◌, require}
+use Rattle.outcome.specs.Outcome.{Outcome, ◌>>=◌, ◌>>◌, require}
 use Rattle.outcome.proofs.Outcome.{refused_given}
 use Rattle.disk.specs.declared.Place.{Place}
 use Rattle.disk.specs.Disk.{start, sectors, number_of, byte_of}
@@ -56,16 +57,16 @@ module _ (n : ℕ) (some' : 0 < n) (few : n ≤ 16) where
   pub record Step (d : List ℕ) (ls : List (Option File)) (op : Op) (e : List ℕ) : Type 0 where
     pub line : ℕ
     pub new : List Place
-    pub line_is : line_for n d op ≡ given line
-    pub new_is : needed n d op ≡ given new
+    pub line_is : line_for n d op ≡ Ok line
+    pub new_is : needed n d op ≡ Ok new
     pub gone : List Place
-    pub gone_is : released n d op ≡ given gone
+    pub gone_is : released n d op ≡ Ok gone
     pub after : After n d e (planned op ls) line new gone
 
-  step : (d : List ℕ) (c : Clean n d) (r : Reading n d) (op : Op) → OfBytes op → (e : List ℕ) → amend n d op ≡ given e → Step d r.ls op e
+  step : (d : List ℕ) (c : Clean n d) (r : Reading n d) (op : Op) → OfBytes op → (e : List ℕ) → amend n d op ≡ Ok e → Step d r.ls op e
   step d c r (Amending.Op.save name address bytes) b e h =
       let t = save_clean n some' few d c.bytes (size_of d c) r name address bytes b e h in
-      let q : take_for n (length bytes) d ≡ given (t.1, t.2) = t.4 in
+      let q : take_for n (length bytes) d ≡ Ok (t.1, t.2) = t.4 in
       record {
         line = t.0;
         new = sectors_in t.1;
@@ -76,15 +77,15 @@ module _ (n : ℕ) (some' : 0 < n) (few : n ≤ 16) where
         after = t.5;
       }
     where
-      taken_is : (o : Outcome (List Part × List ℕ)) (gs : List Part) (m : List ℕ) → o ≡ given (gs, m)
-          → (o >>= λ r. given (sectors_in r.0)) ≡ given (sectors_in gs)
+      taken_is : (o : Outcome (List Part × List ℕ)) (gs : List Part) (m : List ℕ) → o ≡ Ok (gs, m)
+          → (o >>= λ r. Ok (sectors_in r.0)) ≡ Ok (sectors_in gs)
       taken_is o gs m p = rw p refl
   step d c r (Amending.Op.delete name) b e h =
       let t = delete_clean n some' few d c.bytes (size_of d c) r name e h in
       record { line = t.0; new = []; line_is = t.2; new_is = refl; gone = t.1; gone_is = ap (λ (o : Outcome ℕ). o >>= λ x. sectors_of n d (entry_from d x)) t.2 ∙ t.3; after = t.4 }
 
   -- ---- the claims
-  lined_is : (d : List ℕ) (c : Contents) → contents n d ≡ given c → (ls : List (Option File)) × (lines n d ≡ given ls) × (c.files ≡ present ls)
+  lined_is : (d : List ℕ) (c : Contents) → contents n d ≡ Ok c → (ls : List (Option File)) × (lines n d ≡ Ok ls) × (c.files ≡ present ls)
   unfolding lines
   lined_is d c h = let t = contents_lines n d c h in (t.1, rw t.2 t.3, t.4)
 
@@ -100,8 +101,8 @@ module _ (n : ℕ) (some' : 0 < n) (few : n ≤ 16) where
           → (t : Reading n (run n d' ops)) × (t.ls ≡ plan n d' ops r'.ls) × Bytes (run n d' ops) × (byte_of n (run n d' ops) vtoc 6 ≡ byte_of n d' vtoc 6))
           → (t : Reading n (run n (kept d o) ops)) × (t.ls ≡ plan n (kept d o) ops (planned_by o op r.ls)) × Bytes (run n (kept d o) ops)
           × (byte_of n (run n (kept d o) ops) vtoc 6 ≡ byte_of n d vtoc 6)
-      go (refused q) h i = i d c r
-      go (given e) h i =
+      go (Err q) h i = i d c r
+      go (Ok e) h i =
           let s = step d c r op b e h in
           let t = i e (clean_of e s.after.bytes s.after.reading) s.after.reading in
           (t.0, t.1 ∙ ap (plan n e ops) s.after.lines, t.2, t.3 ∙ s.after.fixed 6 (omega arith) (inl (omega arith)))
@@ -110,7 +111,7 @@ module _ (n : ℕ) (some' : 0 < n) (few : n ≤ 16) where
   page_number : (p : Place) (x : ℕ) → Within n p x → x / 256 ≡ number_of n p
   page_number p x w = let a = w.low in let b = w.high in omega arith
 
-  touches_is : (d : List ℕ) → Clean n d → (op : Op) → OfBytes op → (e : List ℕ) → amend n d op ≡ given e → Touches n d op e
+  touches_is : (d : List ℕ) → Clean n d → (op : Op) → OfBytes op → (e : List ℕ) → amend n d op ≡ Ok e → Touches n d op e
   touches_is d c op b e h =
       let r = (reading_of d c).0 in
       let s = step d c r op b e h in
@@ -154,37 +155,37 @@ module _ (n : ℕ) (some' : 0 < n) (few : n ≤ 16) where
       and_yes false = refl
 
   -- the lines of a clean disk
-  lines_of : (d : List ℕ) (c : Clean n d) (ls : List (Option File)) → lines n d ≡ given ls → (r : Reading n d) × (r.ls ≡ ls)
+  lines_of : (d : List ℕ) (c : Clean n d) (ls : List (Option File)) → lines n d ≡ Ok ls → (r : Reading n d) × (r.ls ≡ ls)
   lines_of d c ls h = let r = (reading_of d c).0 in (r, lines_reading n d r ls h)
 
-  answer : (d : List ℕ) (r : Reading n d) (op : Op) (q : Refusal) → amend n d op ≡ refused q
-      → (foreseen op r.ls ≡ refused q) ⊎ ((foreseen op r.ls ≡ given tt) × (needed n d op ≡ refused q) × (q ≡ NoSpace))
+  answer : (d : List ℕ) (r : Reading n d) (op : Op) (q : Refusal) → amend n d op ≡ Err q
+      → (foreseen op r.ls ≡ Err q) ⊎ ((foreseen op r.ls ≡ Ok tt) × (needed n d op ≡ Err q) × (q ≡ NoSpace))
   answer d r (Amending.Op.save name address bytes) q h =
       ⊎_elim inl (λ t. inr (t.0, rw t.1 refl, t.2)) (save_answers n d r (reading_tidy n d r) name address bytes q h)
   answer d r (Amending.Op.delete name) q h = inl (delete_answers n d r (reading_tidy n d r) name q h)
 
-  accept : (d : List ℕ) (r : Reading n d) (op : Op) (e : List ℕ) → amend n d op ≡ given e → foreseen op r.ls ≡ given tt
+  accept : (d : List ℕ) (r : Reading n d) (op : Op) (e : List ℕ) → amend n d op ≡ Ok e → foreseen op r.ls ≡ Ok tt
   accept d r (Amending.Op.save name address bytes) e h = save_accepts n d r (reading_tidy n d r) name address bytes e h
   accept d r (Amending.Op.delete name) e h = delete_accepts n d r (reading_tidy n d r) name e h
 
   -- the contents, by the volume and the lines
   contents_of_lem : (e d : List ℕ) (r : Reading n e) (ls : List (Option File)) → byte_of n e vtoc 6 ≡ byte_of n d vtoc 6 → r.ls ≡ ls
-      → contents n e ≡ given (record { volume = byte_of n d vtoc 6; files = present ls })
+      → contents n e ≡ Ok (record { volume = byte_of n d vtoc 6; files = present ls })
   contents_of_lem e d r ls v q =
-      (tidy_given n e (contents_with n e (present r.ls)) (reading_tidy n e r)).1 ∙ (λ i. given (record { volume = v i; files = present (q i) }))
+      (tidy_given n e (contents_with n e (present r.ls)) (reading_tidy n e r)).1 ∙ (λ i. Ok (record { volume = v i; files = present (q i) }))
 
   -- what was saved is fetched
-  fetch_is : (d : List ℕ) → Clean n d → (name : List ℕ) (address : ℕ) (bytes : List ℕ) → Bytes bytes → (e : List ℕ) → saved n d name address bytes ≡ given e
-      → fetched n e name ≡ given bytes
+  fetch_is : (d : List ℕ) → Clean n d → (name : List ℕ) (address : ℕ) (bytes : List ℕ) → Bytes bytes → (e : List ℕ) → saved n d name address bytes ≡ Ok e
+      → fetched n e name ≡ Ok bytes
   unfolding fetched
   fetch_is d c name address bytes b e h =
       let r = (reading_of d c).0 in
       let f = (step d c r (Amending.Op.save name address bytes) b e h).after in
       let k = fore_parts (savable name) (any (holds_name name) r.ls) (leb (length bytes) 32768) (any is_open r.ls) (accept d r (Amending.Op.save name address bytes) e h) in
-      let t : contents n e ≡ given (contents_with n e (present f.reading.ls)) = (tidy_given n e (contents_with n e (present f.reading.ls)) (reading_tidy n e f.reading)).1 in
+      let t : contents n e ≡ Ok (contents_with n e (present f.reading.ls)) = (tidy_given n e (contents_with n e (present f.reading.ls)) (reading_tidy n e f.reading)).1 in
       rw t (ap (λ (ls : List (Option File)). last_named name (present ls)) f.lines ∙ filled_named name (file_saved name bytes) (savable_shown name k.0) r.ls k.1 k.2)
     where
-      fore_parts : (A B C D : Bool) → require A UnwritableName >> require (not B) NameTaken >> require C NoSpace >> require D NoSpace ≡ given tt → (A ≡ true) × (B ≡ false) × (D ≡ true)
+      fore_parts : (A B C D : Bool) → require A UnwritableName >> require (not B) NameTaken >> require C NoSpace >> require D NoSpace ≡ Ok tt → (A ≡ true) × (B ≡ false) × (D ≡ true)
       fore_parts true false true true q = (refl, refl, refl)
       fore_parts true false true false q = absurd (refused_given q)
       fore_parts true false false D q = absurd (refused_given q)
@@ -200,7 +201,7 @@ module _ (n : ℕ) (some' : 0 < n) (few : n ≤ 16) where
         follows = λ d c ops b ls h.
             let r = lines_of d c ls h in
             let t = runs ops b d c r.0 in
-            reading_lines n (run n d ops) t.0 ∙ ap given (t.1 ∙ ap (plan n d ops) r.1);
+            reading_lines n (run n d ops) t.0 ∙ ap Ok (t.1 ∙ ap (plan n d ops) r.1);
         contains = λ d c ops b ls h.
             let r = lines_of d c ls h in
             let t = runs ops b d c r.0 in
@@ -208,10 +209,10 @@ module _ (n : ℕ) (some' : 0 < n) (few : n ≤ 16) where
         fetches = fetch_is;
         answers = λ d c op ls h q k.
             let r = lines_of d c ls h in
-            subst (λ (l : List (Option File)). (foreseen op l ≡ refused q) ⊎ ((foreseen op l ≡ given tt) × (needed n d op ≡ refused q) × (q ≡ NoSpace))) r.1 (answer d r.0 op q k);
+            subst (λ (l : List (Option File)). (foreseen op l ≡ Err q) ⊎ ((foreseen op l ≡ Ok tt) × (needed n d op ≡ Err q) × (q ≡ NoSpace))) r.1 (answer d r.0 op q k);
         accepts = λ d c op ls h e k.
             let r = lines_of d c ls h in
-            subst (λ (l : List (Option File)). foreseen op l ≡ given tt) r.1 (accept d r.0 op e k);
+            subst (λ (l : List (Option File)). foreseen op l ≡ Ok tt) r.1 (accept d r.0 op e k);
         searches = λ d later.
             record { finds = seek_takable n d some' later; fails = λ q h. (seek_refused n later d q h, seek_none n d later q h) };
         touches = touches_is;

@@ -14,7 +14,8 @@ use Rattle.lists.proofs.Split.{by_test}
 use Rattle.lists.proofs.Among.{not_among}
 use Rattle.lists.proofs.Chunks.{every_append, flat_map_append, split_every}
 use Rattle.lists.proofs.Every.{every_imp}
-use Rattle.outcome.specs.Outcome.{given, each}
+use Rattle.std.specs.Prelude.{Ok}
+use Rattle.outcome.specs.Outcome.{each}
 use Rattle.outcome.proofs.Outcome.{each_all}
 use Rattle.disk.specs.declared.Place.{Place}
 use Rattle.disk.specs.Disk.{number_of, on_disk, byte_of}
@@ -57,11 +58,11 @@ module _ (n : ℕ) (z : 0 < n) (d : List ℕ) (r : Reading n d) where
   vtoc_held = let a = held_here n (number_of n vtoc) vtoc [] refl in let b = held_none n (number_of n vtoc) in omega arith
 
   -- what lines hold is on the disk
-  hold_on : (x : ℕ) (u : List Place) → line_holds n d x ≡ given u → On n u
+  hold_on : (x : ℕ) (u : List Place) → line_holds n d x ≡ Ok u → On n u
   unfolding line_holds
   hold_on x u h =
       by_test (live (entry_from d x)) (λ q. sectors_on n d (entry_from d x) u (rw q at h))
-      (λ q. let y : given [] ≡ given u = rw q at h in let w : u ≡ [] = cc in rw w Every.none)
+      (λ q. let y : Ok [] ≡ Ok u = rw q at h in let w : u ≡ [] = cc in rw w Every.none)
 
   pub lines_on_lem : On n (flat_map (λ t. t) r.us)
   lines_on_lem = joined_on n d (each_all (line_holds n d) (On n) hold_on (starts n r.ps) r.us r.holds)
@@ -138,12 +139,12 @@ module _ (n : ℕ) (d e : List ℕ) (r : Reading n d) (a : List ℕ) (x : ℕ) (
     pub lb : List (Option File)
     pub us_is : r.us ≡ ua ++ u ∷ ub
     pub ls_is : r.ls ≡ la ++ l ∷ lb
-    pub holds_a : each (line_holds n d) a ≡ given ua
-    pub holds_x : line_holds n d x ≡ given u
-    pub holds_b : each (line_holds n d) b ≡ given ub
-    pub files_a : each (line_at n d) a ≡ given la
-    pub files_x : line_at n d x ≡ given l
-    pub files_b : each (line_at n d) b ≡ given lb
+    pub holds_a : each (line_holds n d) a ≡ Ok ua
+    pub holds_x : line_holds n d x ≡ Ok u
+    pub holds_b : each (line_holds n d) b ≡ Ok ub
+    pub files_a : each (line_at n d) a ≡ Ok la
+    pub files_x : line_at n d x ≡ Ok l
+    pub files_b : each (line_at n d) b ≡ Ok lb
 
   pub parts_of : starts n r.ps ≡ a ++ x ∷ b → Parts
   parts_of s =
@@ -176,7 +177,7 @@ module _ (n : ℕ) (d e : List ℕ) (r : Reading n d) (a : List ℕ) (x : ℕ) (
         let s = split_every (starts_of n q) h in
         Every.more (page_stays n d e q l.0 l.1 s.0) (pages_stays qs s.1 ls)
 
-    pub changed_pages : pages n e ≡ given r.ps
+    pub changed_pages : pages n e ≡ Ok r.ps
     changed_pages =
         let t : Every (λ (y : ℕ). (entry_from e y ≡ entry_from d y) ⊎ Plain e y) (a ++ x ∷ b) =
         every_append (every_imp (λ y q. inl q) c.before) (Every.more (inr c.plain) (every_imp (λ y q. inl q) c.after)) in
@@ -189,8 +190,8 @@ module _ (n : ℕ) (d e : List ℕ) (r : Reading n d) (a : List ℕ) (x : ℕ) (
     tail_alike : {v : List Place} {vs : List (List Place)} → Every (Every (Alike n d e)) (v ∷ vs) → Every (Every (Alike n d e)) vs
     tail_alike (Every.more h t) = t
 
-    runs : (u' : List Place) (l' : Option File) → line_holds n e x ≡ given u' → line_at n e x ≡ given l'
-        → (each (line_holds n e) (starts n r.ps) ≡ given (p.ua ++ u' ∷ p.ub)) × (each (line_at n e) (starts n r.ps) ≡ given (p.la ++ l' ∷ p.lb))
+    runs : (u' : List Place) (l' : Option File) → line_holds n e x ≡ Ok u' → line_at n e x ≡ Ok l'
+        → (each (line_holds n e) (starts n r.ps) ≡ Ok (p.ua ++ u' ∷ p.ub)) × (each (line_at n e) (starts n r.ps) ≡ Ok (p.la ++ l' ∷ p.lb))
     runs u' l' h f =
         let ra = two_runs (line_holds n d) (line_holds n e) (line_at n d) (line_at n e) (line_stays n d e) p.ua p.la c.before parts_alike.0 p.holds_a p.files_a in
         let rb = two_runs (line_holds n d) (line_holds n e) (line_at n d) (line_at n e) (line_stays n d e) p.ub p.lb c.after (tail_alike parts_alike.1) p.holds_b p.files_b in (
@@ -199,7 +200,7 @@ module _ (n : ℕ) (d e : List ℕ) (r : Reading n d) (a : List ℕ) (x : ℕ) (
         )
 
     -- so e is a clean disk with that line changed
-    pub changed_reading : (u' : List Place) (l' : Option File) → line_holds n e x ≡ given u' → line_at n e x ≡ given l'
+    pub changed_reading : (u' : List Place) (l' : Option File) → line_holds n e x ≡ Ok u' → line_at n e x ≡ Ok l'
         → Clear n e (vtoc ∷ r.ps ++ flat_map (λ t. t) (p.ua ++ u' ∷ p.ub))
         → (t : Reading n e) × (t.ls ≡ p.la ++ l' ∷ p.lb)
     changed_reading u' l' h f k =

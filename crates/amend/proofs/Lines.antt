@@ -14,7 +14,8 @@ use Rattle.lists.proofs.Among.{among_here, among_there, unlike}
 use Rattle.lists.proofs.Chunks.{every_append, every_tab}
 use Rattle.lists.proofs.Select.{filter_append}
 use Rattle.lists.proofs.Every.{every_imp, every_map}
-use Rattle.outcome.specs.Outcome.{Outcome, given, each}
+use Rattle.std.specs.Prelude.{Ok}
+use Rattle.outcome.specs.Outcome.{Outcome, each}
 use Rattle.outcome.proofs.Outcome.{gives, each_cons}
 use Rattle.disk.specs.declared.Place.{Place}
 use Rattle.disk.specs.Disk.{start, number_of}
@@ -146,10 +147,10 @@ module _ (n : ℕ) (d : List ℕ) where
 
   -- ---- what each line holds
   unfoldable pub line_holds : ℕ → Outcome (List Place)
-  line_holds x = cond (in_use d x) (sectors_of n d (entry_from d x)) (given [])
+  line_holds x = cond (in_use d x) (sectors_of n d (entry_from d x)) (Ok [])
 
-  pub holds_lines : (xs : List ℕ) (ts : List (List Place)) → each (sectors_of n d) (filter live (map (entry_from d) xs)) ≡ given ts
-      → (us : List (List Place)) × (each line_holds xs ≡ given us) × (flat_map (λ t. t) us ≡ flat_map (λ t. t) ts)
+  pub holds_lines : (xs : List ℕ) (ts : List (List Place)) → each (sectors_of n d) (filter live (map (entry_from d) xs)) ≡ Ok ts
+      → (us : List (List Place)) × (each line_holds xs ≡ Ok us) × (flat_map (λ t. t) us ≡ flat_map (λ t. t) ts)
   unfolding each filter line_holds flat_map
   holds_lines [] ts e = let z : ts ≡ [] = cc in ([], refl, rw z refl)
   holds_lines (x ∷ xs) ts e =
@@ -162,8 +163,8 @@ module _ (n : ℕ) (d : List ℕ) where
       let i = holds_lines xs ts (rw q at e) in
       ([] ∷ i.0, rw (q, i.1) refl, i.2))
 
-  pub lines_hold : (xs : List ℕ) (us : List (List Place)) → each line_holds xs ≡ given us
-      → (ts : List (List Place)) × (each (sectors_of n d) (filter live (map (entry_from d) xs)) ≡ given ts) × (flat_map (λ t. t) us ≡ flat_map (λ t. t) ts)
+  pub lines_hold : (xs : List ℕ) (us : List (List Place)) → each line_holds xs ≡ Ok us
+      → (ts : List (List Place)) × (each (sectors_of n d) (filter live (map (entry_from d) xs)) ≡ Ok ts) × (flat_map (λ t. t) us ≡ flat_map (λ t. t) ts)
   unfolding each filter line_holds flat_map
   lines_hold [] us e = let z : us ≡ [] = cc in ([], refl, rw z refl)
   lines_hold (x ∷ xs) us e =
@@ -171,16 +172,16 @@ module _ (n : ℕ) (d : List ℕ) where
       let i = lines_hold xs c.1 c.3 in
       by_test (live (entry_from d x))
       (λ q.
-      let s : sectors_of n d (entry_from d x) ≡ given c.0 = rw q at c.2 in
+      let s : sectors_of n d (entry_from d x) ≡ Ok c.0 = rw q at c.2 in
       (c.0 ∷ i.0, rw (q, s, i.1) refl, ap (flat_map (λ t. t)) c.4 ∙ ap (λ (l : List Place). c.0 ++ l) i.2))
       (λ q.
-      let s : given [] ≡ given c.0 = rw q at c.2 in
+      let s : Ok [] ≡ Ok c.0 = rw q at c.2 in
       let z : c.0 ≡ [] = cc in
       (i.0, rw (q, i.1) refl, ap (flat_map (λ t. t)) c.4 ∙ ap (λ (l : List Place). l ++ flat_map (λ t. t) c.1) z ∙ i.2))
 
   -- the files in use are those of the lines, the empty ones left out
-  pub files_lines : (xs : List ℕ) (fs : List File) → each (file_of n d) (filter live (map (entry_from d) xs)) ≡ given fs
-      → (ls : List (Option File)) × (each (line_at n d) xs ≡ given ls) × (fs ≡ present ls)
+  pub files_lines : (xs : List ℕ) (fs : List File) → each (file_of n d) (filter live (map (entry_from d) xs)) ≡ Ok fs
+      → (ls : List (Option File)) × (each (line_at n d) xs ≡ Ok ls) × (fs ≡ present ls)
   unfolding each filter line_at present
   files_lines [] fs e = let z : fs ≡ [] = cc in ([], refl, z)
   files_lines (x ∷ xs) fs e =
@@ -193,13 +194,13 @@ module _ (n : ℕ) (d : List ℕ) where
       let i = files_lines xs fs (rw q at e) in
       (none ∷ i.0, rw (q, i.1) refl, i.2))
 
-  one_file : (x : ℕ) (xs : List ℕ) (f : File) (fs : List File) → live (entry_from d x) ≡ true → file_of n d (entry_from d x) ≡ given f
-      → each (file_of n d) (filter live (map (entry_from d) xs)) ≡ given fs → each (file_of n d) (filter live (map (entry_from d) (x ∷ xs))) ≡ given (f ∷ fs)
+  one_file : (x : ℕ) (xs : List ℕ) (f : File) (fs : List File) → live (entry_from d x) ≡ true → file_of n d (entry_from d x) ≡ Ok f
+      → each (file_of n d) (filter live (map (entry_from d) xs)) ≡ Ok fs → each (file_of n d) (filter live (map (entry_from d) (x ∷ xs))) ≡ Ok (f ∷ fs)
   unfolding each filter
   one_file x xs f fs q g i = rw (q, g, i) refl
 
-  pub lines_files : (xs : List ℕ) (ls : List (Option File)) → each (line_at n d) xs ≡ given ls
-      → each (file_of n d) (filter live (map (entry_from d) xs)) ≡ given (present ls)
+  pub lines_files : (xs : List ℕ) (ls : List (Option File)) → each (line_at n d) xs ≡ Ok ls
+      → each (file_of n d) (filter live (map (entry_from d) xs)) ≡ Ok (present ls)
   unfolding each filter line_at present
   lines_files [] ls e = let z : ls ≡ [] = cc in rw z refl
   lines_files (x ∷ xs) ls e =
@@ -207,13 +208,13 @@ module _ (n : ℕ) (d : List ℕ) where
       let i = lines_files xs c.1 c.3 in
       by_test (live (entry_from d x))
       (λ q.
-      let g = gives (file_of n d (entry_from d x)) (λ f. given (some f)) c.0 (rw q at c.2) in
-      let y : given (some g.0) ≡ given c.0 = g.2 in
+      let g = gives (file_of n d (entry_from d x)) (λ f. Ok (some f)) c.0 (rw q at c.2) in
+      let y : Ok (some g.0) ≡ Ok c.0 = g.2 in
       let z : c.0 ≡ some g.0 = cc in
-      let a : each (file_of n d) (filter live (map (entry_from d) (x ∷ xs))) ≡ given (g.0 ∷ present c.1) = one_file x xs g.0 (present c.1) q g.1 i in
-      a ∙ ap (λ (l : List (Option File)). given (present l)) (sym (c.4 ∙ ap (λ (o : Option File). o ∷ c.1) z)))
+      let a : each (file_of n d) (filter live (map (entry_from d) (x ∷ xs))) ≡ Ok (g.0 ∷ present c.1) = one_file x xs g.0 (present c.1) q g.1 i in
+      a ∙ ap (λ (l : List (Option File)). Ok (present l)) (sym (c.4 ∙ ap (λ (o : Option File). o ∷ c.1) z)))
       (λ q.
-      let y : given none ≡ given c.0 = rw q at c.2 in
+      let y : Ok none ≡ Ok c.0 = rw q at c.2 in
       let z : c.0 ≡ none = cc in
-      let a : each (file_of n d) (filter live (map (entry_from d) (x ∷ xs))) ≡ given (present c.1) = rw (q, i) refl in
-      a ∙ ap (λ (l : List (Option File)). given (present l)) (sym (c.4 ∙ ap (λ (o : Option File). o ∷ c.1) z)))
+      let a : each (file_of n d) (filter live (map (entry_from d) (x ∷ xs))) ≡ Ok (present c.1) = rw (q, i) refl in
+      a ∙ ap (λ (l : List (Option File)). Ok (present l)) (sym (c.4 ∙ ap (λ (o : Option File). o ∷ c.1) z)))

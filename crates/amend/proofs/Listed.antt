@@ -11,8 +11,9 @@ use Rattle.lists.specs.Select.{any}
 use Rattle.lists.proofs.Split.{by_test, clash}
 use Rattle.lists.proofs.Equal.{same_refl}
 use Rattle.lists.proofs.Among.{unlike}
+use Rattle.std.specs.Prelude.{Ok, Err}
 use Rattle.outcome.specs.declared.Refusal.TheVariants.{NotOnRoll}
-use Rattle.outcome.specs.Outcome.{refused, given, each}
+use Rattle.outcome.specs.Outcome.{each}
 use Rattle.outcome.proofs.Outcome.{gives, each_cons}
 use Rattle.catalog.specs.Catalog.{shown, entry_from}
 use Rattle.files.specs.Contents.{File, file_of}
@@ -117,7 +118,7 @@ any_present x (some f ∷ ls) = rw (any_present x ls) refl
 
 -- ---- the last of a name
 -- none has it
-none_named : (x : List ℕ) (ls : List (Option File)) → any (holds_name x) ls ≡ false → last_named x (present ls) ≡ refused NotOnRoll
+none_named : (x : List ℕ) (ls : List (Option File)) → any (holds_name x) ls ≡ false → last_named x (present ls) ≡ Err NotOnRoll
 unfolding any present last_named
 none_named x [] e = refl
 none_named x (none ∷ ls) e = none_named x ls e
@@ -126,7 +127,7 @@ none_named x (some f ∷ ls) e =
 
 -- the one that was filled in
 pub filled_named : (x : List ℕ) (f : File) → shown f.raw ≡ x → (ls : List (Option File)) → any (holds_name x) ls ≡ false → any is_open ls ≡ true
-    → last_named x (present (fill_first f ls)) ≡ given f.bytes
+    → last_named x (present (fill_first f ls)) ≡ Ok f.bytes
 unfolding any present last_named fill_first
 filled_named x f q [] e o = absurd (clash o)
 filled_named x f q (none ∷ ls) e o = rw (none_named x ls e, q, same_refl x) refl
@@ -136,33 +137,33 @@ filled_named x f q (some g ∷ ls) e o =
 -- ---- the lines of a disk
 module _ (n : ℕ) (d : List ℕ) where
   -- a line that is open is not in use
-  pub line_open : (y : ℕ) (l : Option File) → line_at n d y ≡ given l → is_open l ≡ not (in_use d y)
+  pub line_open : (y : ℕ) (l : Option File) → line_at n d y ≡ Ok l → is_open l ≡ not (in_use d y)
   unfolding line_at
   line_open y l h =
       by_test (in_use d y)
       (λ q.
-      let g = gives (file_of n d (entry_from d y)) (λ f. given (some f)) l (rw q at h) in
-      let k : given (some g.0) ≡ given l = g.2 in
+      let g = gives (file_of n d (entry_from d y)) (λ f. Ok (some f)) l (rw q at h) in
+      let k : Ok (some g.0) ≡ Ok l = g.2 in
       let z : l ≡ some g.0 = cc in
       ap is_open z ∙ rw q refl)
-      (λ q. let k : given none ≡ given l = rw q at h in let z : l ≡ none = cc in ap is_open z ∙ rw q refl)
+      (λ q. let k : Ok none ≡ Ok l = rw q at h in let z : l ≡ none = cc in ap is_open z ∙ rw q refl)
 
   -- a line's file has the shown name of its entry
-  pub line_name : (x : List ℕ) (y : ℕ) (l : Option File) → line_at n d y ≡ given l → holds_name x l ≡ (in_use d y && is_named x (entry_from d y))
+  pub line_name : (x : List ℕ) (y : ℕ) (l : Option File) → line_at n d y ≡ Ok l → holds_name x l ≡ (in_use d y && is_named x (entry_from d y))
   unfolding line_at
   line_name x y l h =
       by_test (in_use d y)
       (λ q.
-      let g = gives (file_of n d (entry_from d y)) (λ f. given (some f)) l (rw q at h) in
-      let k : given (some g.0) ≡ given l = g.2 in
+      let g = gives (file_of n d (entry_from d y)) (λ f. Ok (some f)) l (rw q at h) in
+      let k : Ok (some g.0) ≡ Ok l = g.2 in
       let z : l ≡ some g.0 = cc in
       let s : shown g.0.raw ≡ shown (entry_from d y).raw = ap (λ (f : File). shown f.raw) (file_given n d (entry_from d y) g.0 g.1).3 in
       ap (holds_name x) z ∙ ap (same x) s ∙ rw q refl)
-      (λ q. let k : given none ≡ given l = rw q at h in let z : l ≡ none = cc in ap (holds_name x) z ∙ rw q refl)
+      (λ q. let k : Ok none ≡ Ok l = rw q at h in let z : l ≡ none = cc in ap (holds_name x) z ∙ rw q refl)
 
   -- a test of the lines is one of the plain list
-  pub each_any : (t : Option File → Bool) (s : ℕ → Bool) → ((y : ℕ) (l : Option File) → line_at n d y ≡ given l → t l ≡ s y)
-      → (ys : List ℕ) (ls : List (Option File)) → each (line_at n d) ys ≡ given ls → any t ls ≡ any s ys
+  pub each_any : (t : Option File → Bool) (s : ℕ → Bool) → ((y : ℕ) (l : Option File) → line_at n d y ≡ Ok l → t l ≡ s y)
+      → (ys : List ℕ) (ls : List (Option File)) → each (line_at n d) ys ≡ Ok ls → any t ls ≡ any s ys
   unfolding each any
   each_any t s h [] ls e = let z : ls ≡ [] = cc in rw z refl
   each_any t s h (y ∷ ys) ls e =

@@ -1,4 +1,5 @@
 -- A clean disk changed in the map, in sectors that were free, and then in one entry line: what is read of it. Assumes nothing.
+use Rattle.std.specs.Prelude.{Ok}
 use mathlib.Core.Path.{◌≡◌, refl, sym, ap, subst, ◌∙◌}
 use mathlib.Core.Bool.{true, false}
 use mathlib.Core.Logic.{inl, inr, ⊎_elim}
@@ -15,7 +16,6 @@ use Rattle.lists.proofs.Among.{unlike}
 use Rattle.lists.proofs.Put.{length_put}
 use Rattle.lists.proofs.Chunks.{split_every}
 use Rattle.lists.proofs.Every.{every_imp, every_both}
-use Rattle.outcome.specs.Outcome.{given}
 use Rattle.disk.specs.declared.Place.{Place}
 use Rattle.disk.specs.Disk.{start, number_of, on_disk, byte_of, bytes_of, sectors}
 use Rattle.disk.specs.Vtoc.{vtoc}
@@ -87,8 +87,8 @@ pub record After (n : ℕ) (d e : List ℕ) (ls : List (Option File)) (line : �
   pub changed : Changed n d e old front line back
   pub kept_front : Every (LineKept d e) front
   pub kept_back : Every (LineKept d e) back
-  pub was_held : line_holds n d line ≡ given gone
-  pub is_held : line_holds n e line ≡ given new
+  pub was_held : line_holds n d line ≡ Ok gone
+  pub is_held : line_holds n e line ≡ Ok new
 
 -- a line ends within the disk
 pub line_fits : (n : ℕ) → 0 < n → (d : List ℕ) → length d ≡ 256 * sectors n → (r : Reading n d) (a : List ℕ) (x : ℕ) (b : List ℕ) → starts n r.ps ≡ a ++ x ∷ b

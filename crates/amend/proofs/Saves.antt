@@ -20,8 +20,9 @@ use Rattle.lists.proofs.Equal.{same_eq}
 use Rattle.lists.proofs.Bounds.{at_cons, bytes_append, bytes_take, bytes_drop}
 use Rattle.lists.proofs.Chunks.{every_append, split_every}
 use Rattle.lists.proofs.Every.{every_imp, every_both}
+use Rattle.std.specs.Prelude.{Ok}
 use Rattle.outcome.specs.declared.Refusal.TheVariants.{UnwritableName, NoSpace, NameTaken}
-use Rattle.outcome.specs.Outcome.{Outcome, given, ◌>>=◌, ◌>>◌, require}
+use Rattle.outcome.specs.Outcome.{Outcome, ◌>>=◌, ◌>>◌, require}
 use Rattle.outcome.proofs.Outcome.{gives, refused_given}
 use Rattle.disk.specs.declared.Place.{Place}
 use Rattle.disk.specs.Disk.{number_of, on_disk, bytes_of, sectors}
@@ -59,10 +60,10 @@ module _ (n : ℕ) (d : List ℕ) (name : List ℕ) (address : ℕ) (bytes : Lis
     pub named : savable name ≡ true
     pub short : length bytes ≤ 32768
     pub x : ℕ
-    pub line_is : open_line n d ≡ given x
-    pub at : saved_at n d x name address bytes ≡ given e
+    pub line_is : open_line n d ≡ Ok x
+    pub at : saved_at n d x name address bytes ≡ Ok e
 
-  pub saved_given : (e : List ℕ) → saved n d name address bytes ≡ given e → Saving e
+  pub saved_given : (e : List ℕ) → saved n d name address bytes ≡ Ok e → Saving e
   unfolding saved
   saved_given e h =
       let g = gives (tidy n d) _ e h in
@@ -73,14 +74,14 @@ module _ (n : ℕ) (d : List ℕ) (name : List ℕ) (address : ℕ) (bytes : Lis
       let o = gives (open_line n d) (λ x. saved_at n d x name address bytes) e k.2 in
       record { named = k.0; short = leb-true _ _ k.1; x = o.0; line_is = o.1; at = o.2 }
     where
-      steps : (a b c : Bool) (o : Outcome (List ℕ)) → require a UnwritableName >> require b NameTaken >> (require c NoSpace >> o) ≡ given e
-          → (a ≡ true) × (c ≡ true) × (o ≡ given e)
+      steps : (a b c : Bool) (o : Outcome (List ℕ)) → require a UnwritableName >> require b NameTaken >> (require c NoSpace >> o) ≡ Ok e
+          → (a ≡ true) × (c ≡ true) × (o ≡ Ok e)
       steps true true true o q = (refl, refl, q)
       steps true true false o q = absurd (refused_given q)
       steps true false c o q = absurd (refused_given q)
       steps false b c o q = absurd (refused_given q)
 
-  pub open_line_lem : (ps : List Place) (x : ℕ) → pages n d ≡ given ps → open_line n d ≡ given x → first_of (λ (y : ℕ). not (in_use d y)) (starts n ps) ≡ some x
+  pub open_line_lem : (ps : List Place) (x : ℕ) → pages n d ≡ Ok ps → open_line n d ≡ Ok x → first_of (λ (y : ℕ). not (in_use d y)) (starts n ps) ≡ some x
   unfolding open_line
   open_line_lem ps x p h = found_given (first_of (λ (y : ℕ). not (in_use d y)) (starts n ps)) NoSpace x (rw p at h)
 
@@ -88,13 +89,13 @@ module _ (n : ℕ) (d : List ℕ) (name : List ℕ) (address : ℕ) (bytes : Lis
   abbrev pub made_of : (x : ℕ) → List Part → List ℕ → List ℕ
   made_of x gs m = put x (entry_record (first_list gs) 4 false name (length gs + length (data_of gs))) (written n (file_writes gs address bytes) m)
 
-  pub saved_at_lem : (x : ℕ) (e : List ℕ) → saved_at n d x name address bytes ≡ given e
-      → (gs : List Part) × (m : List ℕ) × (take_for n (length bytes) d ≡ given (gs, m)) × (e ≡ made_of x gs m)
+  pub saved_at_lem : (x : ℕ) (e : List ℕ) → saved_at n d x name address bytes ≡ Ok e
+      → (gs : List Part) × (m : List ℕ) × (take_for n (length bytes) d ≡ Ok (gs, m)) × (e ≡ made_of x gs m)
   unfolding saved_at
   saved_at_lem x e h =
       let g = gives (take_for n (length bytes) d) _ e h in
       let r : List Part × List ℕ = g.0 in
-      let y : given (made_of x r.0 r.1) ≡ given e = g.2 in
+      let y : Ok (made_of x r.0 r.1) ≡ Ok e = g.2 in
       (r.0, r.1, g.1, cc)
 
 -- ---- the entry
@@ -224,7 +225,7 @@ in_places n (w ∷ ws) =
 pub record Filled (n k : ℕ) (name f : List ℕ) (x : ℕ) (gs : List Part) (m : List ℕ) : Type 0 where
   pub in_use_now : in_use f x ≡ true
   pub shows : shown (entry_from f x).raw ≡ name
-  pub lists_is : lists n f (entry_from f x) ≡ given (map (λ (g : Part). g.list) gs)
+  pub lists_is : lists n f (entry_from f x) ≡ Ok (map (λ (g : Part). g.list) gs)
   pub pairs_is : flat_map (pairs_of n f) (map (λ (g : Part). g.list) gs) ≡ data_of gs
   pub data_many : length (data_of gs) ≡ data_for k
   pub lists_many : length gs ≡ lists_for (data_for k)
@@ -369,13 +370,13 @@ module _ (n : ℕ) (some' : 0 < n) (few : n ≤ 16) (d : List ℕ) (bytesd : Byt
         first_taker : {p : Place} {ps : List Place} → Every (Taker n) (p ∷ ps) → Taker n p
         first_taker (Every.more t ts) = t
 
-    holds : line_holds n e x ≡ given L
+    holds : line_holds n e x ≡ Ok L
     unfolding line_holds
     holds =
         rw in_use_lem
         (stored_sectors n e (entry_from e x) g gs address bytes (omega arith) reads.list shape many' takes.0 takes.1 stands.0 stands.1)
 
-    files : line_at n e x ≡ given (some (file_saved name bytes))
+    files : line_at n e x ≡ Ok (some (file_saved name bytes))
     unfolding line_at kind_of
     files =
         let f = stored_file n e (entry_from e x) g gs address bytes (omega arith) reads.list shape many' takes.0 takes.1 stands.0 stands.1
@@ -487,8 +488,8 @@ module _ (n : ℕ) (some' : 0 < n) (few : n ≤ 16) (d : List ℕ) (bytesd : Byt
   conclude_for named short x a b split before here (g ∷ gs) m tk shape many =
       (conclude named short x a b split before here g gs m tk shape many, filled_with named short x a b split before here g gs m tk shape many)
 
-  pub save_clean : (f : List ℕ) → saved n d name address bytes ≡ given f
-      → (x : ℕ) × (gs : List Part) × (m : List ℕ) × (open_line n d ≡ given x) × (take_for n (length bytes) d ≡ given (gs, m))
+  pub save_clean : (f : List ℕ) → saved n d name address bytes ≡ Ok f
+      → (x : ℕ) × (gs : List Part) × (m : List ℕ) × (open_line n d ≡ Ok x) × (take_for n (length bytes) d ≡ Ok (gs, m))
       × After n d f (fill_first (file_saved name bytes) r.ls) x (sectors_in gs) [] × Filled n (length bytes) name f x gs m
   save_clean f h =
       let s = saved_given n d name address bytes f h in

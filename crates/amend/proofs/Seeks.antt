@@ -12,9 +12,9 @@ use Rattle.lists.specs.Fill.{below}
 use Rattle.lists.proofs.Split.{by_test, by_lt, both_true}
 use Rattle.lists.proofs.Chunks.{every_append, every_tab, split_every}
 use Rattle.lists.proofs.Every.{every_below, every_imp, every_map, map_every, every_flat_map, flat_map_every}
+use Rattle.std.specs.Prelude.{Ok, Err}
 use Rattle.outcome.specs.declared.Refusal.{Refusal}
 use Rattle.outcome.specs.declared.Refusal.TheVariants.{NoSpace}
-use Rattle.outcome.specs.Outcome.{refused, given}
 use Rattle.outcome.proofs.Outcome.{refused_given}
 use Rattle.disk.specs.declared.Place.{Place}
 use Rattle.disk.specs.Disk.{place, byte_of, on_disk}
@@ -69,12 +69,12 @@ last_same f g (Every.more {x} {xs} q h) =
     last_step_lem f x xs ∙ (λ j. last_step (q j) x (i j)) ∙ sym (last_step_lem g x xs)
 
 -- nothing was found
-pub found_none : {A : Type 0} (o : Option A) (r q : Refusal) → found o r ≡ refused q → o ≡ none
+pub found_none : {A : Type 0} (o : Option A) (r q : Refusal) → found o r ≡ Err q → o ≡ none
 found_none none r q e = refl
 found_none (some x) r q e = absurd (refused_given (sym e))
 
 -- what was found
-pub found_given : {A : Type 0} (o : Option A) (r : Refusal) (x : A) → found o r ≡ given x → o ≡ some x
+pub found_given : {A : Type 0} (o : Option A) (r : Refusal) (x : A) → found o r ≡ Ok x → o ≡ some x
 found_given none r x e = absurd (refused_given e)
 found_given (some y) r x e = cc
 
@@ -136,13 +136,13 @@ module _ (n : ℕ) (d : List ℕ) (some' : 0 < n) where
   later_passes : (later t : Bool) → not (later && t) ≡ true → later ≡ true → t ≡ false
   later_passes later t e h = not-true t (rw h at e)
 
-  pub seek_takable : (later : Bool) (q : Spot) → seek n d later ≡ given q → (on_disk n q.place ≡ true) × (takable n d later q.place ≡ true)
+  pub seek_takable : (later : Bool) (q : Spot) → seek n d later ≡ Ok q → (on_disk n q.place ≡ true) × (takable n d later q.place ≡ true)
   unfolding seek
   seek_takable later q e =
       let f = first_found (λ (s : Spot). takable n d later s.place) q spots_spotted (found_given _ NoSpace q e) in
       (f.1.0, f.0)
 
-  pub seek_given : (later : Bool) (q : Spot) → seek n d later ≡ given q → Sought later q
+  pub seek_given : (later : Bool) (q : Spot) → seek n d later ≡ Ok q → Sought later q
   unfolding seek takable open_track
   seek_given later q e =
       let f = first_found (λ (s : Spot). takable n d later s.place) q spots_spotted (found_given _ NoSpace q e) in
@@ -200,7 +200,7 @@ module _ {P : Visit → Type 0} where
       by_lt u 17 (λ h. edge_down dir 17 u q (omega arith) t.1) (λ h. edge_up 17 u h l (rw q at t.0)))
 
 -- a search that finds nothing: there is no sector that can be taken
-pub seek_none : (n : ℕ) (d : List ℕ) (later : Bool) (r : Refusal) → seek n d later ≡ refused r → (p : Place) → on_disk n p ≡ true → takable n d later p ≡ false
+pub seek_none : (n : ℕ) (d : List ℕ) (later : Bool) (r : Refusal) → seek n d later ≡ Err r → (p : Place) → on_disk n p ≡ true → takable n d later p ≡ false
 unfolding seek spots spots_of
 seek_none n d later r h p on =
     let none : first_of (λ (q : Spot). takable n d later q.place) (spots n d) ≡ none = found_none _ NoSpace r h in

@@ -1,4 +1,5 @@
 -- A file that was written, read: its lists, its data sectors and its bytes. Assumes nothing.
+use Rattle.std.specs.Prelude.{Ok}
 use mathlib.Core.Path.{◌≡◌, refl, ap, ◌∙◌}
 use mathlib.Core.Bool.{Bool, true, false}
 use mathlib.Core.List.{List, [], ◌∷◌, ◌++◌, map, flat_map}
@@ -15,7 +16,6 @@ use Rattle.lists.specs.Words.{le2, word_at}
 use Rattle.lists.proofs.Split.{by_lt}
 use Rattle.lists.proofs.Laws.{length_padded, get_or_padded}
 use Rattle.lists.proofs.Chunks.{split_every}
-use Rattle.outcome.specs.Outcome.{given}
 use Rattle.disk.specs.declared.Place.{Place}
 use Rattle.disk.specs.Disk.{place, bytes_of, on_disk}
 use Rattle.disk.proofs.Chain.{Chained, Link, chained_walk}
@@ -159,7 +159,7 @@ module _ (n : ℕ) (e : List ℕ) (x : Entry) (g : Part) (gs : List Part) (addre
   ls = map (λ (h : Part). h.list) (g ∷ gs)
 
   -- its lists, and their pairs
-  pub lists_are : lists n e x ≡ given ls
+  pub lists_are : lists n e x ≡ Ok ls
   unfolding list_walk
   lists_are =
       let c : Chained n (sound_list n e) (next_list n e) x.list ls = rw at (lists_chain n e g gs 0 (data_for (length bytes)) false stand shape takes) in
@@ -172,8 +172,8 @@ module _ (n : ℕ) (e : List ℕ) (x : Entry) (g : Part) (gs : List Part) (addre
   all_on = ap (all (on_disk n)) pairs_are ∙ takers_all n takes'
 
   -- the sectors that the entry holds
-  pub stored_sectors : sectors_of n e x ≡ given (sectors_in (g ∷ gs))
-  stored_sectors = sectors_give n e x ls lists_are all_on ∙ ap given (lists_with n e (g ∷ gs) 0 (data_for (length bytes)) false stand shape takes')
+  pub stored_sectors : sectors_of n e x ≡ Ok (sectors_in (g ∷ gs))
+  stored_sectors = sectors_give n e x ls lists_are all_on ∙ ap Ok (lists_with n e (g ∷ gs) 0 (data_for (length bytes)) false stand shape takes')
 
   -- its bytes
   bytes_are : flat_map (bytes_of n e) (flat_map (pairs_of n e) ls) ≡ pieces (data_for (length bytes)) (file_record address (length bytes) bytes)
@@ -183,8 +183,8 @@ module _ (n : ℕ) (e : List ℕ) (x : Entry) (g : Part) (gs : List Part) (addre
 
   -- and its file
   pub stored_file : (raw : List ℕ) (count : ℕ) → x.kind ≡ 4 → x.locked ≡ 0 → x.raw ≡ raw → x.count ≡ count
-      → file_of n e x ≡ given (record { kind = 4; locked = 0; raw = raw; count = count; bytes = bytes })
+      → file_of n e x ≡ Ok (record { kind = 4; locked = 0; raw = raw; count = count; bytes = bytes })
   stored_file raw count a b c f =
       let w : bytes_in x.kind (flat_map (bytes_of n e) (flat_map (pairs_of n e) ls)) ≡ bytes =
       (λ i. bytes_in (a i) (bytes_are i)) ∙ bytes_back address bytes small in
-      file_gives n e x ls lists_are all_on ∙ (λ i. given (record { kind = a i; locked = b i; raw = c i; count = f i; bytes = w i }))
+      file_gives n e x ls lists_are all_on ∙ (λ i. Ok (record { kind = a i; locked = b i; raw = c i; count = f i; bytes = w i }))

@@ -11,7 +11,8 @@ use Rattle.lists.specs.Every.{Every}
 use Rattle.lists.proofs.Split.{by_test, by_lt}
 use Rattle.lists.proofs.Among.{unlike}
 use Rattle.lists.proofs.Chunks.{every_append, split_every}
-use Rattle.outcome.specs.Outcome.{Outcome, given}
+use Rattle.std.specs.Prelude.{Ok}
+use Rattle.outcome.specs.Outcome.{Outcome}
 use Rattle.outcome.proofs.Outcome.{gives}
 use Rattle.disk.specs.declared.Place.{Place}
 use Rattle.disk.specs.Disk.{number_of, on_disk, sectors}
@@ -25,7 +26,7 @@ use Rattle.amend.proofs.Marks.{Remap, remap_none, remap_more, taken_remap, taken
 use Rattle.amend.proofs.Seeks.{seek_given}
 
 -- two pairs that are given
-pub given_pair : {A B : Type 0} {a c : A} {b e : B} → ◌≡◌ {A = Outcome (A × B)} (given (a, b)) (given (c, e)) → (a ≡ c) × (b ≡ e)
+pub given_pair : {A B : Type 0} {a c : A} {b e : B} → ◌≡◌ {A = Outcome (A × B)} (Ok (a, b)) (Ok (c, e)) → (a ≡ c) × (b ≡ e)
 given_pair {A} {B} {a} {c} {b} {e} h =
     let z : ◌≡◌ {A = A × B} (a, b) (c, e) = cc in
     (ap (λ (t : A × B). t.0) z, ap (λ (t : A × B). t.1) z)
@@ -101,7 +102,7 @@ shaped_data m later (g ∷ gs) h = let i = shaped_data (m - max_pairs) true gs h
 
 module _ (n : ℕ) (some : 0 < n) (few : n ≤ 16) where
   -- one sector
-  pub take_one_lem : (later : Bool) (d : List ℕ) (p : Place) (e : List ℕ) → length d ≡ 256 * sectors n → take_one n later d ≡ given (p, e)
+  pub take_one_lem : (later : Bool) (d : List ℕ) (p : Place) (e : List ℕ) → length d ≡ 256 * sectors n → take_one n later d ≡ Ok (p, e)
       → Taking n d (p ∷ []) e × (later ≡ true → p.sector.0 ≡ 0 → ⊥)
   unfolding take_one
   take_one_lem later d p e size h =
@@ -133,7 +134,7 @@ module _ (n : ℕ) (some : 0 < n) (few : n ≤ 16) where
       (rw (a, b) at t, rw a at k.sector0)
 
   -- some data sectors
-  pub take_data_lem : (m : ℕ) (d : List ℕ) (ps : List Place) (e : List ℕ) → length d ≡ 256 * sectors n → take_data n m d ≡ given (ps, e)
+  pub take_data_lem : (m : ℕ) (d : List ℕ) (ps : List Place) (e : List ℕ) → length d ≡ 256 * sectors n → take_data n m d ≡ Ok (ps, e)
       → Taking n d ps e × (length ps ≡ m)
   unfolding take_data
   take_data_lem zero d ps e size h =
@@ -163,7 +164,7 @@ module _ (n : ℕ) (some : 0 < n) (few : n ≤ 16) where
 
   -- lists, each with its data
   pub take_parts_lem : (k m : ℕ) (later : Bool) (d : List ℕ) (gs : List Part) (e : List ℕ) → length d ≡ 256 * sectors n → m ≤ 122 * k
-      → take_parts n k m later d ≡ given (gs, e) → Taking n d (sectors_in gs) e × Shaped m later gs × (length gs ≡ k)
+      → take_parts n k m later d ≡ Ok (gs, e) → Taking n d (sectors_in gs) e × Shaped m later gs × (length gs ≡ k)
   unfolding take_parts flat_map
   take_parts_lem zero m later d gs e size l h =
       let z : ([] ≡ gs) × (d ≡ e) = given_pair h in
@@ -217,7 +218,7 @@ module _ (n : ℕ) (some : 0 < n) (few : n ≤ 16) where
       let i = order_takes gs s.1 in
       (Every.more t i.0, every_append s.0 i.1)
 
-  pub take_for_lem : (k : ℕ) (d : List ℕ) (gs : List Part) (e : List ℕ) → length d ≡ 256 * sectors n → take_for n k d ≡ given (gs, e)
+  pub take_for_lem : (k : ℕ) (d : List ℕ) (gs : List Part) (e : List ℕ) → length d ≡ 256 * sectors n → take_for n k d ≡ Ok (gs, e)
       → Taking n d (sectors_in gs) e × Shaped (data_for k) false gs × (length gs ≡ lists_for (data_for k))
   unfolding take_for
   take_for_lem k d gs e size h = take_parts_lem (lists_for (data_for k)) (data_for k) false d gs e size (omega arith) h

@@ -4,9 +4,10 @@ use Rattle.std.proofs.Math.Option.{Option}
 use Rattle.lists.specs.Fill.{Bytes}
 use Rattle.lists.specs.Every.{Every}
 use Rattle.lists.specs.Select.{any, among}
+use Rattle.std.specs.Prelude.{Ok, Err}
 use Rattle.outcome.specs.declared.Refusal.{Refusal}
 use Rattle.outcome.specs.declared.Refusal.TheVariants.{UnwritableName, NotOnRoll, NoSpace, NameTaken}
-use Rattle.outcome.specs.Outcome.{Outcome, refused, given, ◌>>=◌, ◌>>◌, require}
+use Rattle.outcome.specs.Outcome.{Outcome, ◌>>=◌, ◌>>◌, require}
 use Rattle.disk.specs.declared.Place.{Place}
 use Rattle.disk.specs.Disk.{start, on_disk, number_of, byte_of, bytes_of}
 use Rattle.disk.specs.Vtoc.{vtoc}
@@ -35,10 +36,14 @@ abbrev pub amend : ℕ → List ℕ → Op → Outcome (List ℕ)
 amend n d (save name address bytes) = saved n d name address bytes
 amend n d (delete name) = deleted n d name
 
+-- an answer without what it gives: a refusal, or none
+abbrev pub bare : {A : Type 0} → Outcome A → Outcome (Unit {0})
+bare o = o >> Ok tt
+
 -- a refused one leaves the disk as it was
 abbrev pub kept : List ℕ → Outcome (List ℕ) → List ℕ
-kept d (refused r) = d
-kept d (given e) = e
+kept d (Err r) = d
+kept d (Ok e) = e
 
 -- one after the other
 unfoldable pub run : ℕ → List ℕ → List Op → List ℕ
@@ -58,8 +63,8 @@ planned (delete name) ls = empty_last name ls
 
 -- a refused one leaves the list as it was
 abbrev pub planned_by : Outcome (List ℕ) → Op → List (Option File) → List (Option File)
-planned_by (refused r) op ls = ls
-planned_by (given e) op ls = planned op ls
+planned_by (Err r) op ls = ls
+planned_by (Ok e) op ls = planned op ls
 
 -- one after the other, beside the disk, which tells what was refused
 unfoldable pub plan : ℕ → List ℕ → List Op → List (Option File) → List (Option File)
@@ -75,12 +80,12 @@ foreseen (delete name) ls = require (savable name) UnwritableName >> require (an
 
 -- the sectors that a save takes; a delete takes none
 abbrev pub needed : ℕ → List ℕ → Op → Outcome (List Place)
-needed n d (save name address bytes) = take_for n (length bytes) d >>= λ r. given (sectors_in r.0)
-needed n d (delete name) = given []
+needed n d (save name address bytes) = take_for n (length bytes) d >>= λ r. Ok (sectors_in r.0)
+needed n d (delete name) = Ok []
 
 -- the sectors that a delete gives back; a save gives none
 abbrev pub released : ℕ → List ℕ → Op → Outcome (List Place)
-released n d (save name address bytes) = given []
+released n d (save name address bytes) = Ok []
 released n d (delete name) = line_of n d name >>= λ x. sectors_of n d (entry_from d x)
 
 -- the line that a save fills, or a delete empties
@@ -93,7 +98,7 @@ line_for n d (delete name) = line_of n d name
 pub record Clean (n : ℕ) (d : List ℕ) : Type 0 where
   pub bytes : Bytes d
   pub has : Contents
-  pub is : tidy n d ≡ given has
+  pub is : tidy n d ≡ Ok has
 
 -- byte k of the VTOC is not last track, direction or of the map
 abbrev pub Fixed : ℕ → Type 0
@@ -107,11 +112,11 @@ is_in n ps p = among (number_of n p) (map (number_of n) ps)
 pub record Touches (n : ℕ) (d : List ℕ) (op : Op) (e : List ℕ) : Type 0 where
   -- the line, the sectors taken, the sectors given back
   pub line : ℕ
-  pub line_is : line_for n d op ≡ given line
+  pub line_is : line_for n d op ≡ Ok line
   pub new : List Place
-  pub new_is : needed n d op ≡ given new
+  pub new_is : needed n d op ≡ Ok new
   pub gone : List Place
-  pub gone_is : released n d op ≡ given gone
+  pub gone_is : released n d op ≡ Ok gone
   pub size : length e ≡ length d
   -- any other sector is as it was
   pub rest : (p : Place) → on_disk n p ≡ true → (p ≡ vtoc → ⊥) → (number_of n p ≡ line / 256 → ⊥) → is_in n new p ≡ false → bytes_of n e p ≡ bytes_of n d p
@@ -125,33 +130,33 @@ pub record Touches (n : ℕ) (d : List ℕ) (op : Op) (e : List ℕ) : Type 0 wh
 
 -- what the search finds can be taken, and it finds nothing only where nothing can be taken
 pub record Searches (n : ℕ) (d : List ℕ) (later : Bool) : Type 0 where
-  pub finds : (q : Spot) → seek n d later ≡ given q → (on_disk n q.place ≡ true) × (takable n d later q.place ≡ true)
-  pub fails : (r : Refusal) → seek n d later ≡ refused r → (r ≡ NoSpace) × ((p : Place) → on_disk n p ≡ true → takable n d later p ≡ false)
+  pub finds : (q : Spot) → seek n d later ≡ Ok q → (on_disk n q.place ≡ true) × (takable n d later q.place ≡ true)
+  pub fails : (r : Refusal) → seek n d later ≡ Err r → (r ≡ NoSpace) × ((p : Place) → on_disk n p ≡ true → takable n d later p ≡ false)
 
 -- Req 09, for disks of n sectors a track
 pub record AmendingOf (n : ℕ) : Type 0 where
   -- the contents of a disk are its lines, the empty ones left out
-  pub lined : (d : List ℕ) (c : Contents) → contents n d ≡ given c
-      → (ls : List (Option File)) × (lines n d ≡ given ls) × (c.files ≡ present ls)
+  pub lined : (d : List ℕ) (c : Contents) → contents n d ≡ Ok c
+      → (ls : List (Option File)) × (lines n d ≡ Ok ls) × (c.files ≡ present ls)
   -- every list of saves and deletes leaves a clean disk clean, and its lines are those of the plain list
   pub stays : (d : List ℕ) → Clean n d → (ops : List Op) → Every OfBytes ops → Clean n (run n d ops)
-  pub follows : (d : List ℕ) → Clean n d → (ops : List Op) → Every OfBytes ops → (ls : List (Option File)) → lines n d ≡ given ls
-      → lines n (run n d ops) ≡ given (plan n d ops ls)
+  pub follows : (d : List ℕ) → Clean n d → (ops : List Op) → Every OfBytes ops → (ls : List (Option File)) → lines n d ≡ Ok ls
+      → lines n (run n d ops) ≡ Ok (plan n d ops ls)
   -- so its contents are the volume as it was, and the files of that list
-  pub contains : (d : List ℕ) → Clean n d → (ops : List Op) → Every OfBytes ops → (ls : List (Option File)) → lines n d ≡ given ls
-      → contents n (run n d ops) ≡ given (record { volume = byte_of n d vtoc 6; files = present (plan n d ops ls) })
+  pub contains : (d : List ℕ) → Clean n d → (ops : List Op) → Every OfBytes ops → (ls : List (Option File)) → lines n d ≡ Ok ls
+      → contents n (run n d ops) ≡ Ok (record { volume = byte_of n d vtoc 6; files = present (plan n d ops ls) })
   -- what was saved is fetched by its name, byte for byte
-  pub fetches : (d : List ℕ) → Clean n d → (name : List ℕ) (address : ℕ) (bytes : List ℕ) → Bytes bytes → (e : List ℕ) → saved n d name address bytes ≡ given e
-      → fetched n e name ≡ given bytes
+  pub fetches : (d : List ℕ) → Clean n d → (name : List ℕ) (address : ℕ) (bytes : List ℕ) → Bytes bytes → (e : List ℕ) → saved n d name address bytes ≡ Ok e
+      → fetched n e name ≡ Ok bytes
   -- one op on a clean disk: what the plain list refuses is refused so; else it is refused only where the search finds no sector, as 21
-  pub answers : (d : List ℕ) → Clean n d → (op : Op) → (ls : List (Option File)) → lines n d ≡ given ls
-      → (r : Refusal) → amend n d op ≡ refused r
-      → (foreseen op ls ≡ refused r) ⊎ ((foreseen op ls ≡ given tt) × (needed n d op ≡ refused r) × (r ≡ NoSpace))
-  pub accepts : (d : List ℕ) → Clean n d → (op : Op) → (ls : List (Option File)) → lines n d ≡ given ls
-      → (e : List ℕ) → amend n d op ≡ given e → foreseen op ls ≡ given tt
+  pub answers : (d : List ℕ) → Clean n d → (op : Op) → (ls : List (Option File)) → lines n d ≡ Ok ls
+      → (r : Refusal) → amend n d op ≡ Err r
+      → (foreseen op ls ≡ Err r) ⊎ ((foreseen op ls ≡ Ok tt) × (needed n d op ≡ Err r) × (r ≡ NoSpace))
+  pub accepts : (d : List ℕ) → Clean n d → (op : Op) → (ls : List (Option File)) → lines n d ≡ Ok ls
+      → (e : List ℕ) → amend n d op ≡ Ok e → foreseen op ls ≡ Ok tt
   pub searches : (d : List ℕ) (later : Bool) → Searches n d later
   -- only the VTOC, the entry's page and newly taken sectors change
-  pub touches : (d : List ℕ) → Clean n d → (op : Op) → OfBytes op → (e : List ℕ) → amend n d op ≡ given e → Touches n d op e
+  pub touches : (d : List ℕ) → Clean n d → (op : Op) → OfBytes op → (e : List ℕ) → amend n d op ≡ Ok e → Touches n d op e
 
 -- .. and that is 16 on the disks that are saved to
 abbrev pub Amending : Type 0

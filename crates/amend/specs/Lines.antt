@@ -6,9 +6,10 @@ use Rattle.std.proofs.Math.Option.{Option, none, some}
 use Rattle.lists.specs.Fill.{below}
 use Rattle.lists.specs.Same.{same}
 use Rattle.lists.specs.Select.{any, among}
+use Rattle.std.specs.Prelude.{Ok, Err}
 use Rattle.outcome.specs.declared.Refusal.{Refusal}
 use Rattle.outcome.specs.declared.Refusal.TheVariants.{NotOnRoll, NoSpace, NotClean}
-use Rattle.outcome.specs.Outcome.{Outcome, refused, given, ◌>>=◌, ◌>>◌, require, each}
+use Rattle.outcome.specs.Outcome.{Outcome, ◌>>=◌, ◌>>◌, require, each}
 use Rattle.disk.specs.declared.Place.{Place}
 use Rattle.disk.specs.Disk.{start}
 use Rattle.catalog.specs.Catalog.{Entry, live, entry_from, shown, trimmed, pages}
@@ -28,8 +29,8 @@ module _ {A : Type 0} (test : A → Bool) where
 
 -- what was found, or a refusal
 abbrev pub found : {A : Type 0} → Option A → Refusal → Outcome A
-found none r = refused r
-found (some x) r = given x
+found none r = Err r
+found (some x) r = Ok x
 
 -- a name that a save or a delete takes: writable, and with no byte 0 and no space at the end, else 14
 unfoldable pub savable : List ℕ → Bool
@@ -50,7 +51,7 @@ in_use d x = live (entry_from d x)
 module _ (n : ℕ) (d : List ℕ) where
   -- what it holds: the file of its entry; nothing where it is unused or deleted
   unfoldable pub line_at : ℕ → Outcome (Option File)
-  line_at x = cond (in_use d x) (file_of n d (entry_from d x) >>= λ f. given (some f)) (given none)
+  line_at x = cond (in_use d x) (file_of n d (entry_from d x) >>= λ f. Ok (some f)) (Ok none)
 
   -- the lines of the disk: 1 to 6
   unfoldable pub lines : Outcome (List (Option File))
@@ -66,7 +67,7 @@ module _ (n : ℕ) (d : List ℕ) where
 
   -- the contents of a clean disk: 1 to 6, then 20
   unfoldable pub tidy : Outcome Contents
-  tidy = contents n d >>= λ c. holders n d >>= λ hs. require (clean n d hs) NotClean >> given c
+  tidy = contents n d >>= λ c. holders n d >>= λ hs. require (clean n d hs) NotClean >> Ok c
 
 -- ---- the plain ordered list
 -- the files of some lines, in order

@@ -5,8 +5,9 @@ use Rattle.lists.specs.Fill.{padded, put}
 use Rattle.lists.specs.Same.{same}
 use Rattle.lists.specs.Select.{any}
 use Rattle.lists.specs.Words.{le2}
+use Rattle.std.specs.Prelude.{Ok}
 use Rattle.outcome.specs.declared.Refusal.TheVariants.{UnwritableName, NameTaken, NoSpace}
-use Rattle.outcome.specs.Outcome.{Outcome, given, ◌>>=◌, ◌>>◌, require}
+use Rattle.outcome.specs.Outcome.{Outcome, ◌>>=◌, ◌>>◌, require}
 use Rattle.disk.specs.declared.Place.{Place}
 use Rattle.disk.specs.Disk.{place, start}
 use Rattle.catalog.specs.Catalog.{entry_from, shown}
@@ -33,17 +34,17 @@ pub record Part : Type 0 where
 
 -- m data sectors, and the disk after
 unfoldable pub take_data : ℕ → (m : ℕ) → List ℕ → Outcome (List Place × List ℕ)
-take_data n zero d = given ([], d)
-take_data n (suc m) d = take_one n false d >>= λ r. take_data n m r.1 >>= λ s. given (r.0 ∷ s.0, s.1)
+take_data n zero d = Ok ([], d)
+take_data n (suc m) d = take_one n false d >>= λ r. take_data n m r.1 >>= λ s. Ok (r.0 ∷ s.0, s.1)
 
 -- k lists for m data sectors; `later` after the first
 unfoldable pub take_parts : ℕ → (k m : ℕ) (later : Bool) → List ℕ → Outcome (List Part × List ℕ)
-take_parts n zero m later d = given ([], d)
+take_parts n zero m later d = Ok ([], d)
 take_parts n (suc k) m later d =
     take_one n later d >>= λ r.
     take_data n (min max_pairs m) r.1 >>= λ s.
     take_parts n k (m - max_pairs) true s.1 >>= λ t.
-    given (record { list = r.0; pairs = s.0 } ∷ t.0, t.1)
+    Ok (record { list = r.0; pairs = s.0 } ∷ t.0, t.1)
 
 -- all of them for k bytes
 unfoldable pub take_for : ℕ → (k : ℕ) → List ℕ → Outcome (List Part × List ℕ)
@@ -102,7 +103,7 @@ module _ (n : ℕ) (d : List ℕ) where
   unfoldable pub saved_at : (x : ℕ) (name : List ℕ) (address : ℕ) (bytes : List ℕ) → Outcome (List ℕ)
   saved_at x name address bytes =
       take_for n (length bytes) d >>= λ r.
-      given
+      Ok
       (put x (entry_record (first_list r.0) 4 false name (length r.0 + length (data_of r.0)))
       (written n (file_writes r.0 address bytes) r.1))
 
@@ -120,7 +121,7 @@ module _ (n : ℕ) (d : List ℕ) where
   unfoldable pub deleted_at : (x : ℕ) → Outcome (List ℕ)
   deleted_at x =
       sectors_of n d (entry_from d x) >>= λ ps.
-      given (put (x + 32) ((entry_from d x).list.track.0 ∷ []) (put x (255 ∷ []) (freed n ps d)))
+      Ok (put (x + 32) ((entry_from d x).list.track.0 ∷ []) (put x (255 ∷ []) (freed n ps d)))
 
   -- the end of a delete: the last entry of the name, locked or not, else 18; or the disk after
   abbrev pub removed : (name : List ℕ) → Outcome (List ℕ)

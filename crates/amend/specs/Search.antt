@@ -2,8 +2,9 @@
 use Rattle.std.specs.Prelude.{Bool, cond, not, ◌&&◌, ℕ, zero, suc, ◌+◌, ◌*◌, ◌-◌, ◌/◌, ◌%◌, ◌^◌, leb, eqb}
 use mathlib.Core.List.{List, [], ◌∷◌, ◌++◌, map, flat_map, foldl}
 use Rattle.lists.specs.Fill.{below, put}
+use Rattle.std.specs.Prelude.{Ok}
 use Rattle.outcome.specs.declared.Refusal.TheVariants.{NoSpace}
-use Rattle.outcome.specs.Outcome.{Outcome, given, ◌>>=◌}
+use Rattle.outcome.specs.Outcome.{Outcome, ◌>>=◌}
 use Rattle.disk.specs.declared.Place.{Place}
 use Rattle.disk.specs.Disk.{place, start, byte_of}
 use Rattle.disk.specs.Vtoc.{vtoc, map_word}
@@ -87,7 +88,7 @@ taken n d q = put (start n vtoc + 48) (q.place.track.0 ∷ q.direction ∷ []) (
 
 -- one sector: where it is, and the disk after
 unfoldable pub take_one : ℕ → (later : Bool) → List ℕ → Outcome (Place × List ℕ)
-take_one n later d = seek n d later >>= λ q. given (q.place, taken n d q)
+take_one n later d = seek n d later >>= λ q. Ok (q.place, taken n d q)
 
 -- the disk with some sectors called free, one after the other
 unfoldable pub freed : ℕ → List Place → List ℕ → List ℕ

@@ -5,9 +5,9 @@ use mathlib.Core.List.{List}
 use Prim.Native.Nat.{ℕ, ◌≤◌}
 use lib.Dec.{leb}
 use borrow.Author.Tests.{leb-true, le-leb}
+use Rattle.std.specs.Prelude.{Ok}
 use Rattle.outcome.specs.declared.Refusal.TheVariants.{Overlong, NotItsReturn}
-use Rattle.outcome.specs.Outcome.{given, number}
-use Rattle.outcome.proofs.Outcome.{required, met, gives, number_0}
+use Rattle.outcome.proofs.Outcome.{required, met, gives}
 use Rattle.files.specs.Contents.{Contents, Proper, contents}
 use Rattle.lists.specs.Every.{Every}
 use Rattle.files.specs.Survey.{blocks}
@@ -27,26 +27,26 @@ archive_injective c c' p p' l l' e =
 
 -- a is the archive of the disk's contents, and within the limit
 abbrev pub ArchiveIs : ℕ → List ℕ → List ℕ → Type 0
-ArchiveIs n d a = (c : Contents) × (contents n d ≡ given c) × (blocks c ≤ 4096) × (a ≡ archive c)
+ArchiveIs n d a = (c : Contents) × (contents n d ≡ Ok c) × (blocks c ≤ 4096) × (a ≡ archive c)
 
 module _ (n : ℕ) (d a : List ℕ) where
   -- what the writer hands over is that archive
-  pub writes_archive : (archive_of n d ≡ given a) ↔ ArchiveIs n d a
+  pub writes_archive : (archive_of n d ≡ Ok a) ↔ ArchiveIs n d a
   unfolding archive_of
   writes_archive = (
     (λ e.
         let b = gives (contents n d) _ _ e in
-        let m = met (leb (blocks b.0) 4096) Overlong (given (archive b.0)) b.2 in
+        let m = met (leb (blocks b.0) 4096) Overlong (Ok (archive b.0)) b.2 in
         (b.0, b.1, leb-true _ _ m.0, cc m.1)),
     λ i. rw (i.1, le-leb _ _ i.2, i.3) refl,
   )
 
-  -- the checker gives no number exactly for that archive
-  pub check_passes : (number (check n d a) ≡ 0) ↔ ArchiveIs n d a
+  -- the checker passes exactly for that archive
+  pub check_passes : (check n d a ≡ Ok tt) ↔ ArchiveIs n d a
   unfolding check
   check_passes = (
     (λ e.
-        let b = gives (archive_of n d) _ _ (number_0 (check n d a) e).1 in
+        let b = gives (archive_of n d) _ tt e in
         let q : b.0 ≡ a = same_eq b.0 a (required _ NotItsReturn b.2) in
         writes_archive.0 (cc (b.1, q))),
     λ i. rw (writes_archive.1 i, same_refl a) refl,

@@ -8,7 +8,8 @@ use lib.ListN.{length, take, drop, get_or, length-take, length-drop, take-append
 use lib.Seq.{take_at, drop_at, drop-drop, get_or-append-add, take_all}
 use lib.Dec.{eqb, leb}
 use borrow.Author.Tests.{eq-eqb, ne_eqb, le-leb, lt-leb, lt-ltb, eqb-false}
-use Rattle.outcome.specs.Outcome.{Outcome, refused, given, ◌>>=◌}
+use Rattle.std.specs.Prelude.{Ok, Err}
+use Rattle.outcome.specs.Outcome.{Outcome, ◌>>=◌}
 use Rattle.lists.proofs.Split.{by_test, by_lt}
 use Rattle.catalog.specs.Catalog.{shown}
 use Rattle.catalog.proofs.Names.{shown_short}
@@ -151,13 +152,13 @@ module _ (k b : ℕ) (xs t : List ℕ) (h : suc k ≡ blocks_for (length xs)) wh
 
 -- what is put in front twice
 rejoin : (o : Outcome (List File)) (xs ys zs : List ℕ) → xs ++ ys ≡ zs
-    → ◌>>=◌ {A = List ℕ × List File} {B = List ℕ × List File} (o >>= λ fs. given (ys, fs)) (λ r. given (xs ++ r.0, r.1)) ≡ (o >>= λ fs. given (zs, fs))
-rejoin (refused r) xs ys zs e = refl
-rejoin (given fs) xs ys zs e = rw e refl
+    → ◌>>=◌ {A = List ℕ × List File} {B = List ℕ × List File} (o >>= λ fs. Ok (ys, fs)) (λ r. Ok (xs ++ r.0, r.1)) ≡ (o >>= λ fs. Ok (zs, fs))
+rejoin (Err r) xs ys zs e = refl
+rejoin (Ok fs) xs ys zs e = rw e refl
 
 -- a data chain, and whatever follows it
 data_back : (k m b : ℕ) (xs t : List ℕ) → k ≡ blocks_for (length xs) → 0 < length xs
-    → data_from (k + m) b (length xs) (data_chain k b xs ++ t) ≡ (entries_from m (b + k) t >>= λ fs. given (xs, fs))
+    → data_from (k + m) b (length xs) (data_chain k b xs ++ t) ≡ (entries_from m (b + k) t >>= λ fs. Ok (xs, fs))
 data_back zero m b xs t h l = absurd (omega arith)
 data_back (suc zero) m b xs t h l =
     let e : 1 + m ≡ suc m = omega arith in
@@ -195,7 +196,7 @@ unfolding data_chain
 chain_none k b xs t e = rw e refl
 
 -- the entries are read back
-pub entries_back : (b : ℕ) {fs : List File} → Every Proper fs → blocks_in fs ≤ 4095 → entries_from (blocks_in fs) b (entry_chain b fs) ≡ given fs
+pub entries_back : (b : ℕ) {fs : List File} → Every Proper fs → blocks_in fs ≤ 4095 → entries_from (blocks_in fs) b (entry_chain b fs) ≡ Ok fs
 unfolding blocks_in
 entries_back b none l = entries_none b _
 entries_back b (more {x = f} {xs = fs} p ps) l =
@@ -215,12 +216,12 @@ entries_back b (more {x = f} {xs = fs} p ps) l =
     let q : k ≡ 0 = omega arith in
     let m : n ≡ blocks_in fs = omega arith in
     let c : b + 1 + k ≡ b + 1 = omega arith in
-    let ih : entries_from n (b + 1) t ≡ given fs = rw (chain_none k (b + 1) f.bytes (entry_chain (b + 1 + k) fs) q, m, c) (entries_back (b + 1) ps (omega arith)) in
+    let ih : entries_from n (b + 1) t ≡ Ok fs = rw (chain_none k (b + 1) f.bytes (entry_chain (b + 1 + k) fs) q, m, c) (entries_back (b + 1) ps (omega arith)) in
     rw (entry_empty n b _ s (omega arith), d, ih, entry_back _ _ _ f t [] p, ← is_nil_lem f.bytes (omega arith)) refl))
 
 -- ---- the whole
 -- the contents are read back
-pub archive_back : (c : Contents) → Every Proper c.files → blocks c ≤ 4096 → opened (archive c) ≡ given c
+pub archive_back : (c : Contents) → Every Proper c.files → blocks c ≤ 4096 → opened (archive c) ≡ Ok c
 unfolding opened sound_first archive
 archive_back c ps l =
     let n = blocks_in c.files in

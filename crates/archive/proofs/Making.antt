@@ -3,8 +3,10 @@ use mathlib.Core.Path.{◌≡◌, refl, ◌∙◌}
 use mathlib.Core.List.{List, [], ◌∷◌, ◌++◌, append_assoc}
 use Prim.Native.Nat.{ℕ, ◌+◌, ◌/◌, ◌%◌, ◌≤◌}
 use native.Mathlib.Omega.{arith}
-use lib.ListN.{length, take, drop, replicate, length-take, length-append}
+use lib.ListN.{length, get_or, take, drop, replicate, length-take, length-append}
 use borrow.Author.Rules.{rules}
+use mir.Syntax.{w16, w32}
+use Rattle.std.specs.Int.{to_le_bytes}
 use Rattle.lists.specs.Fill.{padded, placed}
 use Rattle.lists.specs.Words.{le2, le3}
 use Rattle.lists.proofs.Laws.{length_padded, placed_zeros}
@@ -60,4 +62,15 @@ entry_made next first size kind locked count raw x w z a b c o e g p q r h k =
     let p₄ : Put 0 (((H ++ F) ++ T) ++ X) z o = put_more p₃ q₄ l₃ (omega arith) in
     put_zeros 256 e p₄ ∙ rw (append_assoc (H ++ F) T X, append_assoc H F (T ++ X)) refl
 
-pub ruleset making = (first_made, entry_made, rules)
+-- .. where the numbers came as their bytes
+pub entry_joined : (next first size kind locked count : ℕ) (raw x : List ℕ) (w : Name) (n f m s z a b c o : List ℕ) → n ≡ to_le_bytes w16 next → f ≡ to_le_bytes w16 first
+    → m ≡ to_le_bytes w16 count → s ≡ to_le_bytes w32 size → z ≡ replicate 256 0 → w ≡ name_of (take 30 raw)
+    → a ≡ placed 0 (get_or n 0 0 ∷ get_or n 1 0 ∷ get_or f 0 0 ∷ get_or f 1 0 ∷ kind ∷ locked ∷ w.length ∷ []) z
+    → b ≡ placed 7 w.letters a
+    → c ≡ placed 37 (get_or m 0 0 ∷ get_or m 1 0 ∷ get_or s 0 0 ∷ get_or s 1 0 ∷ get_or s 2 0 ∷ []) b
+    → x ≡ take 30 (drop 0 raw) → o ≡ placed 42 x c
+    → o ≡ entry_bytes next first size kind locked raw count
+entry_joined next first size kind locked count raw x w n f m s z a b c o en ef em es e g p q r h k =
+    entry_made next first size kind locked count raw x w z a b c o e g (p ∙ rw (en, ef) refl) q (r ∙ rw (em, es) refl) h k
+
+pub ruleset making = (entry_joined, rules)

@@ -9,8 +9,9 @@ use lib.ListN.{length, take, drop, get_or, length-append, length-take, length-dr
 use lib.Seq.{take_at, drop_at, take_all}
 use lib.Dec.{eqb, leb, lit<}
 use borrow.Author.Tests.{ne_eqb, eqb-true, leb-true, ltb-true}
+use Rattle.std.specs.Prelude.{Ok}
 use Rattle.outcome.specs.declared.Refusal.TheVariants.{NotItsReturn}
-use Rattle.outcome.specs.Outcome.{given, ◌>>=◌}
+use Rattle.outcome.specs.Outcome.{◌>>=◌}
 use Rattle.outcome.proofs.Outcome.{met, gives}
 use Rattle.lists.specs.Fill.{Bytes}
 use Rattle.lists.proofs.Split.{by_lt, both_true}
@@ -122,7 +123,7 @@ data_put n b size s r h l z e d =
 
 mutual
   -- what was read as entries, or as data, is that
-  entries_are : (n b : ℕ) (s : List ℕ) (fs : List File) → Bytes s → length s ≡ 256 * n → entries_from n b s ≡ given fs → EntriesAre n b s fs
+  entries_are : (n b : ℕ) (s : List ℕ) (fs : List File) → Bytes s → length s ≡ 256 * n → entries_from n b s ≡ Ok fs → EntriesAre n b s fs
   entries_are zero b s fs h l e =
       let q : [] ≡ fs = cc (e, entries_none b s) in
       rw q at (no_entries b s (is_nil_lem s l))
@@ -141,7 +142,7 @@ mutual
       let q : entry_in s [] ∷ u.0 ≡ fs = cc u.2 in
       rw q at (entry_put n b s ([], u.0) h t (no_data_lem z (entries_are n (b + 1) (drop 256 s) u.0 g m u.1))))
 
-  data_are : (n b size : ℕ) (s : List ℕ) (r : List ℕ × List File) → Bytes s → length s ≡ 256 * n → 0 < size → data_from n b size s ≡ given r
+  data_are : (n b size : ℕ) (s : List ℕ) (r : List ℕ × List File) → Bytes s → length s ≡ 256 * n → 0 < size → data_from n b size s ≡ Ok r
       → DataAre n b size s r
   data_are zero b size s r h l z e = absurd (data_none b size s e)
   data_are (suc n) b size s r h l z e =
@@ -184,11 +185,11 @@ first_put n a fs h e r =
     (r.proper, h 0, omega (arith, f.1, r.count), f.2 ∙ rw (← link_is fs 0 n 1 (omega (arith, r.count)), r.is, r.count) refl)
 
 -- what is accepted is an archive
-opened_sound : (a : List ℕ) (c : Contents) → Bytes a → opened a ≡ given c → Archived a c
+opened_sound : (a : List ℕ) (c : Contents) → Bytes a → opened a ≡ Ok c → Archived a c
 unfolding opened
 opened_sound a c h e =
     let n = length a / 256 - 1 in
-    let t = met (sound_first n a) NotItsReturn (entries_from n 1 (drop 256 a) >>= λ fs. given (record { volume = get_or a 0 0; files = fs })) e in
+    let t = met (sound_first n a) NotItsReturn (entries_from n 1 (drop 256 a) >>= λ fs. Ok (record { volume = get_or a 0 0; files = fs })) e in
     let u = gives (entries_from n 1 (drop 256 a)) _ _ t.1 in
     let m : length (drop 256 a) ≡ 256 * n = rw length-drop (omega (arith, (first_tested n a t.0).0)) in
     let x : Contents = record { volume = get_or a 0 0; files = u.0 } in
@@ -196,5 +197,5 @@ opened_sound a c h e =
     subst (Archived a) y (first_put n a u.0 h t.0 (entries_are n 1 (drop 256 a) u.0 (bytes_drop 256 a h) m u.1))
 
 -- The reader accepts exactly the archives of proper contents, and gives these contents.
-pub opened_is : (a : List ℕ) (c : Contents) → Bytes a → (opened a ≡ given c) ↔ Archived a c
+pub opened_is : (a : List ℕ) (c : Contents) → Bytes a → (opened a ≡ Ok c) ↔ Archived a c
 opened_is a c h = (opened_sound a c h, λ s. rw s.3 (archive_back c s.0 s.2))

@@ -1,11 +1,11 @@
 -- Contents written down in chained blocks of 256 bytes (01: return). Document 01, "Return" under Records and under Modules.
 use Rattle.std.specs.Prelude.{◌≡◌, cond, List, [], ◌∷◌, ◌++◌, ℕ, zero, suc, ◌+◌, length, take, drop, leb, eqb}
+use Rattle.std.specs.Prelude.{Ok}
 use Rattle.outcome.specs.declared.Refusal.TheVariants.{Overlong, NotItsReturn}
 use Rattle.lists.specs.Fill.{padded}
 use Rattle.lists.specs.Same.{same}
 use Rattle.lists.specs.Words.{le2, le3}
-use Rattle.outcome.specs.declared.Handed.{Handed}
-use Rattle.outcome.specs.Outcome.{Outcome, given, ◌>>=◌, ◌>>◌, require, number, Hands}
+use Rattle.outcome.specs.Outcome.{Outcome, ◌>>=◌, ◌>>◌, require, Hands}
 use Rattle.disk.specs.Disk.{per_of}
 use Rattle.catalog.specs.Catalog.{shown}
 use Rattle.files.specs.Contents.{File, Contents, contents}
@@ -50,16 +50,16 @@ archive c = first_block c.volume (if_any c.files 1) (blocks c) ++ entry_chain 1 
 
 -- what the writer hands over: 1 to 6, then 7 over 4,096 blocks
 unfoldable pub archive_of : ℕ → List ℕ → Outcome (List ℕ)
-archive_of n d = contents n d >>= λ c. require (leb (blocks c) 4096) Overlong >> given (archive c)
+archive_of n d = contents n d >>= λ c. require (leb (blocks c) 4096) Overlong >> Ok (archive c)
 
 -- what the checker answers: the same, then 13 where a is not that archive
 unfoldable pub check : ℕ → List ℕ → List ℕ → Outcome (Unit {0})
 check n d a = archive_of n d >>= λ w. require (same w a) NotItsReturn
 
 -- the promise of the writer: of the disk d, with space from `before` to `after`, answered r
-abbrev pub Wrote : List ℕ → (before after : List ℕ) → Handed → Type 0
+abbrev pub Wrote : List ℕ → (before after : List ℕ) → Outcome ℕ → Type 0
 Wrote d before after r = Hands (archive_of (per_of d) d) before after r
 
 -- the promise of the checker: of the disk d and the bytes a, answered r
-abbrev pub Checked : (d a : List ℕ) → ℕ → Type 0
-Checked d a r = r ≡ number (check (per_of d) d a)
+abbrev pub Checked : (d a : List ℕ) → Outcome (Unit {0}) → Type 0
+Checked d a r = r ≡ check (per_of d) d a

@@ -1,7 +1,8 @@
 -- Contents read back from an archive, with no disk: document 01, the reader under "Return".
 use Rattle.std.specs.Prelude.{Bool, true, false, cond, ◌&&◌, ◌||◌, List, [], ◌∷◌, ◌++◌, ℕ, zero, suc, ◌+◌, ◌*◌, ◌-◌, ◌/◌, length, get_or, take, drop, leb, ltb, eqb}
+use Rattle.std.specs.Prelude.{Ok, Err}
 use Rattle.outcome.specs.declared.Refusal.TheVariants.{NotItsReturn}
-use Rattle.outcome.specs.Outcome.{Outcome, refused, given, ◌>>=◌, ◌>>◌, require}
+use Rattle.outcome.specs.Outcome.{Outcome, ◌>>=◌, ◌>>◌, require}
 use Rattle.lists.specs.Same.{same}
 use Rattle.lists.specs.Select.{all}
 use Rattle.lists.specs.Words.{word_at}
@@ -50,21 +51,21 @@ sound_data b size s = same (take 256 s) (data_block (cond (leb size 254) 0 (b + 
 -- The n blocks of s, of which the first is block b, read as entries, or as data of which `size` bytes are left, and then entries.
 unfoldable mutual
   pub entries_from : ℕ → ℕ → List ℕ → Outcome (List File)
-  entries_from zero b s = given []
+  entries_from zero b s = Ok []
   entries_from (suc n) b s =
       require (sound_entry n b s) NotItsReturn >>
       (elim (eqb (size_in s) 0) [
-        | true ↦ entries_from n (b + 1) (drop 256 s) >>= λ fs. given (entry_in s [] ∷ fs)
-        | false ↦ data_from n (b + 1) (size_in s) (drop 256 s) >>= λ r. given (entry_in s r.0 ∷ r.1)
+        | true ↦ entries_from n (b + 1) (drop 256 s) >>= λ fs. Ok (entry_in s [] ∷ fs)
+        | false ↦ data_from n (b + 1) (size_in s) (drop 256 s) >>= λ r. Ok (entry_in s r.0 ∷ r.1)
       ])
 
   pub data_from : ℕ → ℕ → ℕ → List ℕ → Outcome (List ℕ × List File)
-  data_from zero b size s = refused NotItsReturn
+  data_from zero b size s = Err NotItsReturn
   data_from (suc n) b size s =
       require (sound_data b size s) NotItsReturn >>
       (elim (leb size 254) [
-        | true ↦ entries_from n (b + 1) (drop 256 s) >>= λ fs. given (part_in size s, fs)
-        | false ↦ data_from n (b + 1) (size - 254) (drop 256 s) >>= λ r. given (part_in size s ++ r.0, r.1)
+        | true ↦ entries_from n (b + 1) (drop 256 s) >>= λ fs. Ok (part_in size s, fs)
+        | false ↦ data_from n (b + 1) (size - 254) (drop 256 s) >>= λ r. Ok (part_in size s ++ r.0, r.1)
       ])
 
 -- block 0 of an archive of 1 + n blocks
@@ -77,4 +78,8 @@ unfoldable pub opened : List ℕ → Outcome Contents
 opened a =
     let n = length a / 256 - 1 in
     require (sound_first n a) NotItsReturn >>
-    (entries_from n 1 (drop 256 a) >>= λ fs. given (record { volume = get_or a 0 0; files = fs }))
+    (entries_from n 1 (drop 256 a) >>= λ fs. Ok (record { volume = get_or a 0 0; files = fs }))
+
+-- whether a value is given, it not being looked at
+abbrev pub whether : {A : Type 0} → Outcome A → Outcome (Unit {0})
+whether o = o >> Ok tt

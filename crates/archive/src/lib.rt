@@ -9,16 +9,13 @@ use catalog::filename;
 use lists::{copy_at, part};
 
 // Block 0: the volume, the first entry block, the number of blocks.
+#[tactic(auto, using(crate::proofs::Making::first_made))]
 pub fn first_block(volume: u8, next: u16, blocks: u16) -> [u8; 256]
     ensures { result ≡ first_block volume next blocks }
 {
-    let head = [
-        volume,
-        (next % 256) as u8,
-        (next / 256 % 256) as u8,
-        (blocks % 256) as u8,
-        (blocks / 256 % 256) as u8,
-    ];
+    let [next_low, next_high] = next.to_le_bytes();
+    let [blocks_low, blocks_high] = blocks.to_le_bytes();
+    let head = [volume, next_low, next_high, blocks_low, blocks_high];
     let mut block = [0u8; 256];
     copy_at(&head, &mut block, 0);
     block
@@ -38,22 +35,20 @@ pub fn entry_block(
 {
     let name = filename(raw);
     let letters = name.letters;
+    let [next_low, next_high] = next.to_le_bytes();
+    let [first_low, first_high] = first.to_le_bytes();
     let head = [
-        (next % 256) as u8,
-        (next / 256 % 256) as u8,
-        (first % 256) as u8,
-        (first / 256 % 256) as u8,
+        next_low,
+        next_high,
+        first_low,
+        first_high,
         kind,
         locked,
         name.length,
     ];
-    let tail = [
-        (count % 256) as u8,
-        (count / 256 % 256) as u8,
-        (size % 256) as u8,
-        (size / 256 % 256) as u8,
-        (size / 65536 % 256) as u8,
-    ];
+    let [count_low, count_high] = count.to_le_bytes();
+    let [size_low, size_middle, size_high, _] = size.to_le_bytes();
+    let tail = [count_low, count_high, size_low, size_middle, size_high];
     let mut block = [0u8; 256];
     copy_at(&head, &mut block, 0);
     copy_at(&letters, &mut block, 7);

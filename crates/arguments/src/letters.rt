@@ -1,53 +1,47 @@
 // Names as `list` shows them, taken back to their bytes.
-use screen::sums::{after, poke};
+use std::alloc::{AllocError, Global};
 
-// The value of a hexadecimal digit, 16 for any other byte.
-fn digit(c: u8) -> u8 {
+// One byte more than the longest name has.
+const TOO_MANY: usize = 31;
+
+// The value of a hexadecimal digit.
+pub fn hex_digit(c: u8) -> Option<u8> {
     match c {
-        48..=57 => c - 48,
-        65..=70 => c - 55,
-        97..=102 => c - 87,
-        _ => 16,
+        b'0'..=b'9' => Some(c - b'0'),
+        b'A'..=b'F' => Some(c - b'A' + 10),
+        b'a'..=b'f' => Some(c - b'a' + 10),
+        _ => None,
     }
 }
 
-// What stands at i in a name as `list` shows it: the byte, and how many bytes of the name it takes.
-#[derive(Clone, Copy)]
-struct Letter {
-    byte: u8,
-    width: usize,
+// The byte of two hexadecimal digits.
+fn hex_byte(high: u8, low: u8) -> Option<u8> {
+    Some(hex_digit(high)? % 16 * 16 + hex_digit(low)? % 16)
 }
 
-fn letter_at(s: &[u8], i: usize) -> Letter {
-    let four = lists::part(s, i, 4);
-    let c = lists::byte_at(four, 0);
-    if c != b'\\' {
-        return Letter { byte: c, width: 1 };
+// The byte with which a name as `list` shows it begins, and what stands behind it.
+fn first_letter(shown: &[u8]) -> Option<(u8, &[u8])> {
+    match shown {
+        [] => None,
+        [b'\\', b'\\', behind @ ..] => Some((b'\\', behind)),
+        [b'\\', b'x', high, low, behind @ ..] => match hex_byte(*high, *low) {
+            Some(byte) => Some((byte, behind)),
+            None => Some((b'\\', &shown[1..])),
+        },
+        [byte, behind @ ..] => Some((*byte, behind)),
     }
-    if lists::byte_at(four, 1) == b'\\' {
-        return Letter { byte: c, width: 2 };
-    }
-    let high = digit(lists::byte_at(four, 2));
-    let low = digit(lists::byte_at(four, 3));
-    if (lists::byte_at(four, 1) == b'x') & ((high < 16) & (low < 16)) {
-        return Letter {
-            byte: high % 16 * 16 + low % 16,
-            width: 4,
+}
+
+// The name that is shown so; of one that is longer than any name the first 31 bytes.
+pub fn unescape(alloc: Global, shown: &[u8]) -> Result<Vec<u8>, AllocError> {
+    let mut name = Vec::new(alloc);
+    let mut rest = shown;
+    for _ in 0..TOO_MANY {
+        let Some((byte, behind)) = first_letter(rest) else {
+            break;
         };
+        name.push(byte)?;
+        rest = behind;
     }
-    Letter { byte: c, width: 1 }
-}
-
-// Puts the name that is shown as s into out, and answers its length; 31 where it is longer than any name.
-pub fn unescape(s: &[u8], out: &mut [u8]) -> usize {
-    let mut i: usize = 0;
-    for k in 0..31usize {
-        if s.len() <= i {
-            return k;
-        }
-        let c = letter_at(s, i);
-        poke(out, k, c.byte);
-        i = after(i, c.width);
-    }
-    31
+    Ok(name)
 }

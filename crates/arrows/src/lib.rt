@@ -5,215 +5,205 @@ use catalog::{entry_list, entry_start, first_page, last_page, valid_file};
 use disk::{Place, link_of};
 use files::last_list;
 use lists::byte_at;
-use pen::colours::dark;
-use pen::form;
-use screen::sums::{next, poke};
-use screen::{sector_number, vtoc};
-
-// How far the arrows have come: the files so far, and the place for the next byte.
-#[derive(Clone, Copy)]
-struct Step {
-    files: u64,
-    n: usize,
-}
-
-// The difference, or 0.
-fn less(a: u32, b: u32) -> u32 {
-    if a < b {
-        return 0;
-    }
-    a - b
-}
-
-// How far apart two numbers are.
-fn apart(a: u32, b: u32) -> u32 {
-    if a < b {
-        return b - a;
-    }
-    a - b
-}
-
-fn larger(a: u32, b: u32) -> u32 {
-    if a < b {
-        return b;
-    }
-    a
-}
+use pen::colours::{CATALOG, dark};
+use screen::seen::Seen;
+use screen::vtoc;
+use std::alloc::AllocError;
 
 // The point 11 from a on the way to b, in one direction, where the way is `far` in the longer one.
 fn near(a: u32, b: u32, far: u32) -> u32 {
     if far == 0 {
         return a;
     }
-    let step = 11 * (apart(a, b) % 8192) / far;
+    let step = 11 * (a.abs_diff(b) % 8192) / far;
     if a < b {
         return a % 8192 + step % 8192;
     }
-    less(a, step)
+    a.saturating_sub(step)
 }
 
 // Where the bend of an arrow is drawn to, in one direction: from the middle aside by an eighth of the way in the other.
 fn bend(a: u32, b: u32, from: u32, to: u32) -> u32 {
     let middle = (a % 8192 + b % 8192) / 2;
-    less(middle + less(from % 8192 + 1600, to % 8192) / 8, 200)
+    let aside = (from % 8192 + 1600).saturating_sub(to % 8192) / 8;
+    (middle + aside).saturating_sub(200)
 }
 
-// An arrow of a file, or of the catalog for 0, by its beginning, its bend and its end.
-fn curve(out: &mut [u8], n: usize, file: u32, points: &[u32]) -> usize {
-    let style = if file == 0 { b'c' } else { b'e' };
-    let colour = if file == 0 { 2045286 } else { dark(file) };
-    let m = form(out, n, b"<path d=\"M% %Q% % % %\"", points);
-    form(
-        out,
-        m,
-        b" class=\"@\" stroke=\"#$\"/>\n",
-        &[style as u32, colour],
-    )
+// A point of the picture.
+#[derive(Clone, Copy, Debug, PartialEq, Eq)]
+struct Point {
+    x: u32,
+    y: u32,
 }
 
-// An arrow from a sector to itself.
-fn round(out: &mut [u8], n: usize, file: u32, x: u32, y: u32) -> usize {
-    let a = x % 8192;
-    let b = y % 8192;
-    curve(
-        out,
-        n,
-        file,
-        &[a + 15, less(b, 8), a + 56, b, a + 15, b + 8],
-    )
-}
-
-// Whether an arrow bends to the other side.
-fn is_turned(low: bool, ax: u32, bx: u32) -> bool {
-    if low {
-        return ax < bx;
+// The middle of a sector.
+fn point_of(p: Place) -> Point {
+    Point {
+        x: 30 * u32::from(p.track.0) + 14,
+        y: 30 * u32::from(p.sector.0) + 14,
     }
-    bx < ax
+}
+
+// An arrow of a file, or of the catalog, by its beginning, its bend and its end.
+#[derive(Clone, Copy)]
+struct Arrow {
+    begin: Point,
+    bend: Point,
+    end: Point,
+}
+
+impl Arrow {
+    fn draw(self, out: &mut String, file: Option<u32>) -> Result<(), AllocError> {
+        let (style, colour) = match file {
+            Some(file) => ('e', dark(file)),
+            None => ('c', CATALOG),
+        };
+        let Point { x, y } = self.begin;
+        write!(out, "<path d=\"M{x} {y}")?;
+        let Point { x, y } = self.bend;
+        write!(out, "Q{x} {y}")?;
+        let Point { x, y } = self.end;
+        write!(out, " {x} {y}\" class=\"{style}\" stroke=\"{colour}\"/>\n")
+    }
+
+    // An arrow from a sector to itself.
+    fn round(at: Point) -> Arrow {
+        let x = at.x % 8192;
+        let y = at.y % 8192;
+        Arrow {
+            begin: Point {
+                x: x + 15,
+                y: y.saturating_sub(8),
+            },
+            bend: Point { x: x + 56, y },
+            end: Point {
+                x: x + 15,
+                y: y + 8,
+            },
+        }
+    }
+
+    // The arrow from one point to another.
+    fn straight(per: u8, from: Point, to: Point, far: u32) -> Arrow {
+        Arrow {
+            begin: Point {
+                x: near(from.x, to.x, far),
+                y: near(from.y, to.y, far),
+            },
+            bend: bend_of(per, from, to, far),
+            end: Point {
+                x: near(to.x, from.x, far),
+                y: near(to.y, from.y, far),
+            },
+        }
+    }
+
+    // The arrow that leads from one place to another, on a disk of `per` sectors a track.
+    fn between(per: u8, from: Place, to: Place) -> Arrow {
+        let from = point_of(from);
+        let to = point_of(to);
+        let far = from.x.abs_diff(to.x).max(from.y.abs_diff(to.y));
+        if far == 0 {
+            return Arrow::round(from);
+        }
+        Arrow::straight(per, from, to, far)
+    }
 }
 
 // A steep arrow that leads down, or a flat one in the lower half. So a steep one bends away from the track where it begins, and a flat one to the middle.
-fn is_low(per: u8, ax: u32, ay: u32, bx: u32, by: u32) -> bool {
-    if apart(ax, bx) < apart(ay, by) {
-        return ay < by;
+fn is_low(per: u8, from: Point, to: Point) -> bool {
+    if from.x.abs_diff(to.x) < from.y.abs_diff(to.y) {
+        return from.y < to.y;
     }
-    15 * (per as u32) < (ay % 8192 + by % 8192) / 2
+    15 * u32::from(per) < (from.y % 8192 + to.y % 8192) / 2
+}
+
+// Whether an arrow bends to the other side.
+fn is_turned(per: u8, from: Point, to: Point) -> bool {
+    if is_low(per, from, to) {
+        return from.x < to.x;
+    }
+    to.x < from.x
 }
 
 // Where the arrow is drawn to between its ends: a short one is straight.
-fn bends(per: u8, ax: u32, ay: u32, bx: u32, by: u32, far: u32) -> [u32; 2] {
+fn bend_of(per: u8, from: Point, to: Point, far: u32) -> Point {
     if far < 31 {
-        return [(ax % 8192 + bx % 8192) / 2, (ay % 8192 + by % 8192) / 2];
+        return Point {
+            x: (from.x % 8192 + to.x % 8192) / 2,
+            y: (from.y % 8192 + to.y % 8192) / 2,
+        };
     }
-    if is_turned(is_low(per, ax, ay, bx, by), ax, bx) {
-        return [bend(ax, bx, by, ay), bend(ay, by, ax, bx)];
+    if is_turned(per, from, to) {
+        return Point {
+            x: bend(from.x, to.x, to.y, from.y),
+            y: bend(from.y, to.y, from.x, to.x),
+        };
     }
-    [bend(ax, bx, ay, by), bend(ay, by, bx, ax)]
-}
-
-// An arrow that leads from one place to another, on a disk of `per` sectors a track.
-fn arrow(out: &mut [u8], n: usize, per: u8, file: u32, from: Place, to: Place) -> usize {
-    let ax = 30 * (from.track.0 as u32) + 14;
-    let ay = 30 * (from.sector.0 as u32) + 14;
-    let bx = 30 * (to.track.0 as u32) + 14;
-    let by = 30 * (to.sector.0 as u32) + 14;
-    let far = larger(apart(ax, bx), apart(ay, by));
-    if far == 0 {
-        return round(out, n, file, ax, ay);
+    Point {
+        x: bend(from.x, to.x, from.y, to.y),
+        y: bend(from.y, to.y, to.x, from.x),
     }
-    let m = bends(per, ax, ay, bx, by, far);
-    curve(
-        out,
-        n,
-        file,
-        &[
-            near(ax, bx, far),
-            near(ay, by, far),
-            m[0],
-            m[1],
-            near(bx, ax, far),
-            near(by, ay, far),
-        ],
-    )
 }
 
 // The arrows from list to list. Those behind a list that was seen before are drawn already.
 fn list_arrows(
+    out: &mut String,
     disk: &[u8],
     per: u8,
     file: u32,
     first: Place,
-    seen: &mut [u8],
-    out: &mut [u8],
-    at: usize,
-) -> usize {
-    let mut n = at;
+    seen: &mut Seen,
+) -> Result<(), AllocError> {
     let mut p = first;
-    for k in 0..560u16 {
-        let spot = sector_number(per, p);
-        if last_list(disk, per, p) | (byte_at(seen, spot) == 1) {
-            return n;
+    for _ in 0..560u16 {
+        if last_list(disk, per, p) || seen.has(per, p) {
+            break;
         }
-        poke(seen, spot, 1);
+        seen.add(per, p);
         let q = link_of(disk, per, p);
-        n = arrow(out, n, per, file, p, q);
+        Arrow::between(per, p, q).draw(out, Some(file))?;
         p = q;
     }
-    n
+    Ok(())
 }
 
-// The arrows of the entry from x on of page p, where it is in use.
-fn entry_arrows(
-    disk: &[u8],
-    per: u8,
-    p: Place,
-    x: usize,
-    seen: &mut [u8],
-    out: &mut [u8],
-    s: Step,
-) -> Step {
-    if !valid_file(byte_at(disk, x)) {
-        return s;
-    }
-    let files = next(s.files);
-    let file = (files % 65536) as u32;
-    let list = entry_list(disk, x);
-    let n = arrow(out, s.n, per, file, p, list);
-    let m = list_arrows(disk, per, file, list, seen, out, n);
-    Step { files: files, n: m }
-}
-
+// The arrows of the entries of page p that are in use: the files so far.
 fn page_arrows(
+    out: &mut String,
     disk: &[u8],
     per: u8,
     p: Place,
-    seen: &mut [u8],
-    out: &mut [u8],
-    before: Step,
-) -> Step {
-    let mut s = before;
+    seen: &mut Seen,
+    before: u32,
+) -> Result<u32, AllocError> {
+    let mut files = before;
     for i in 0..7u8 {
         let x = entry_start(per, p, i);
-        s = entry_arrows(disk, per, p, x, seen, out, s);
+        if valid_file(byte_at(disk, x)) {
+            files = files.saturating_add(1);
+            let list = entry_list(disk, x);
+            Arrow::between(per, p, list).draw(out, Some(files))?;
+            list_arrows(out, disk, per, files, list, seen)?;
+        }
     }
-    s
+    Ok(files)
 }
 
 // All arrows.
-pub fn arrows(disk: &[u8], per: u8, out: &mut [u8], at: usize) -> usize {
-    let mut seen = [0u8; 560];
+pub fn draw_arrows(out: &mut String, disk: &[u8], per: u8) -> Result<(), AllocError> {
+    let mut seen = Seen::none();
+    let mut files = 0;
     let mut p = first_page(disk, per);
-    let start = arrow(out, at, per, 0, vtoc(), p);
-    let mut s = Step { files: 0, n: start };
-    for k in 0..560u16 {
-        s = page_arrows(disk, per, p, &mut seen, out, s);
+    Arrow::between(per, vtoc(), p).draw(out, None)?;
+    for _ in 0..560u16 {
+        files = page_arrows(out, disk, per, p, &mut seen, files)?;
         if last_page(disk, per, p) {
-            return s.n;
+            break;
         }
         let q = link_of(disk, per, p);
-        let files = s.files;
-        let n = arrow(out, s.n, per, 0, p, q);
-        s = Step { files: files, n: n };
+        Arrow::between(per, p, q).draw(out, None)?;
         p = q;
     }
-    s.n
+    Ok(())
 }

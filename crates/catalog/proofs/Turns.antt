@@ -15,16 +15,17 @@ use Rattle.lists.specs.Select.{all, filter, among}
 use Rattle.lists.proofs.Among.{among_snoc}
 use Rattle.lists.proofs.Split.{by_test}
 use Rattle.lists.proofs.Select.{onward, onward_next, onward_end}
-use Rattle.outcome.specs.declared.Refusal.TheVariants.{BadLetter}
-use Rattle.outcome.specs.Outcome.{Outcome, refused, given, number, ◌>>=◌, ◌>>◌}
-use Rattle.outcome.proofs.Outcome.{number_0}
+use Rattle.std.specs.Prelude.{Ok, Err}
+use Rattle.outcome.specs.declared.Refusal.{Refusal}
+use Rattle.outcome.specs.declared.Refusal.TheVariants.{OffDisc, Ring, BadLetter}
+use Rattle.outcome.specs.Outcome.{Outcome, ◌>>=◌}
 use Rattle.disk.specs.declared.Place.{Place}
 use Rattle.disk.specs.Vtoc.{readable}
-use Rattle.disk.specs.Disk.{per_of, link_of, byte_of, start, on_disk, sectors}
+use Rattle.disk.specs.Disk.{per_of, link_of, byte_of, start, on_disk}
 use Rattle.disk.specs.Chain.{walk}
 use Rattle.disk.proofs.Steps.{made, rest, rest_start, rest_full, rest_off, rest_bad, rest_end, rest_more}
 use Rattle.catalog.specs.Catalog.{Entry, known_type, kind_of, letter, valid_file, live, entry_from, entry_at, entries_of, plain_names, last_page, next_page, sound_page, first_page, pages}
-use Rattle.catalog.specs.Pages.{plain_entry, counts, counts_of, no_pages, counted, walked, pages_counted}
+use Rattle.catalog.specs.Pages.{plain_entry, counts, counts_of, walked, pages_counted}
 use Rattle.catalog.specs.declared.Pages.{Pages}
 
 -- ---- a link
@@ -40,37 +41,18 @@ module _ (n : ℕ) (d : List ℕ) (p : Place) (t s : ℕ) (e : t ≡ byte_of n d
 pub ruleset links = (last_first, last_second, rules)
 
 -- ---- a name's bytes
--- k of the n bytes s were looked at
-pub record Letters (s : List ℕ) (n k : ℕ) (b : Bool) : Type 0 where
-  pub count : k ≤ n
-  pub long : n ≡ length s
-  pub is : b ≡ among 128 (take k s)
+-- one byte more
+pub among_next : (s : List ℕ) (k : ℕ) (b : Bool) → b ≡ among 128 (take k s) → k < length s → (b || eqb (get_or s k 0) 128) ≡ among 128 (take (k + 1) s)
+among_next s k b e h = sym (rw (add-one k, take-suc s k 0 h, among_snoc 128 (get_or s k 0) (take k s), ← e) refl)
 
-module _ (s : List ℕ) (n : ℕ) where
-  pub letters_none : n ≡ length s → Letters s n 0 false
-  unfolding among
-  letters_none l = record { count = omega arith; long = l; is = refl }
-
-  module _ (k : ℕ) (b : Bool) (c : Letters s n k b) where
-    pub letters_more : k < n → Letters s n (k + 1) (b || eqb (get_or s k 0) 128)
-    letters_more h =
-        record {
-          count = omega arith;
-          long = c.long;
-          is = sym (rw (add-one k, take-suc s k 0 (omega (arith, c.long)), among_snoc 128 (get_or s k 0) (take k s), ← c.is) refl);
-        }
-
-    pub letters_read : k < n → k < length s
-    letters_read h = omega (arith, c.long)
-
-    pub letters_done : n ≤ k → b ≡ among 128 s
-    letters_done h = c.is ∙ ap (among 128) (take_all k s (omega (arith, c.long)))
+pub among_whole : (s : List ℕ) (k : ℕ) (b : Bool) → b ≡ among 128 (take k s) → length s ≤ k → b ≡ among 128 s
+among_whole s k b e h = e ∙ ap (among 128) (take_all k s h)
 
 -- the bytes are those of the disk
 pub letters_of_lem : (d s : List ℕ) (i : ℕ) (b : Bool) → s ≡ take 30 (drop i d) → b ≡ among 128 s → b ≡ among 128 (take 30 (drop i d))
 letters_of_lem d s i b e h = h ∙ ap (among 128) e
 
-pub ruleset letters = (letters_none, letters_more, letters_read, letters_done, letters_of_lem, rules)
+pub ruleset letters = (among_next, among_whole, letters_of_lem, rules)
 
 -- ---- an entry
 pub valid_unused : (t : ℕ) → t ≡ 0 → false ≡ valid_file t
@@ -205,9 +187,9 @@ module _ (n : ℕ) (d : List ℕ) where
       let b : m + length es + length (flat_map (entries_of n d) ps) ≡ m + length (es ++ flat_map (entries_of n d) ps) = rw length-append (omega arith) in
       more_all (k + 1) (m + length es) ps ∙ λ i. counts (a i) (b i)
 
-  made_counts : (o : Outcome (List Place)) → made more (counts 0 0) o ≡ (o >>= λ ps. given (counts_of n d ps))
-  made_counts (refused r) = refl
-  made_counts (given ps) = ap given (more_all 0 0 ps ∙ λ i. counts (zero-add (length ps) i) (zero-add (length (flat_map (entries_of n d) ps)) i))
+  made_counts : (o : Outcome (List Place)) → made more (counts 0 0) o ≡ (o >>= λ ps. Ok (counts_of n d ps))
+  made_counts (Err r) = refl
+  made_counts (Ok ps) = ap Ok (more_all 0 0 ps ∙ λ i. counts (zero-add (length ps) i) (zero-add (length (flat_map (entries_of n d) ps)) i))
 
   module _ (first : Place) where
     -- k pages with m entries were read, and p is the next
@@ -227,30 +209,30 @@ module _ (n : ℕ) (d : List ℕ) where
           is = rest_start more n (sound_page n d) (next_page n d) (35 * n + 1) (counts 0 0) first ∙ made_counts (walk n (sound_page n d) (next_page n d) (35 * n + 1) [] first);
         }
 
-    module _ (most k m : ℕ) (p : Place) (c : Walking most k m p) (v : Pages) where
-      pub walk_ring : most ≤ k → v ≡ no_pages 4 → v ≡ counted (walked n d first)
-      walk_ring h e = e ∙ rw (← c.is, rest_full more n (sound_page n d) (next_page n d) (35 * n + 1) k (counts k m) p (omega (arith, c.budget))) refl
+    module _ (most k m : ℕ) (p : Place) (c : Walking most k m p) where
+      pub walk_ring : most ≤ k → Err Ring ≡ walked n d first
+      walk_ring h = sym (rw (← c.is, rest_full more n (sound_page n d) (next_page n d) (35 * n + 1) k (counts k m) p (omega (arith, c.budget))) refl)
 
       module _ (h : k < most) (on : Bool) (o : on ≡ on_disk n p) where
         inside : k < 35 * n + 1
         inside = omega (arith, c.budget)
 
-        pub walk_off : on ≡ false → v ≡ no_pages 3 → v ≡ counted (walked n d first)
-        walk_off z e = e ∙ rw (← c.is, rest_off more n (sound_page n d) (next_page n d) (35 * n + 1) k (counts k m) p inside (sym o ∙ z)) refl
+        pub walk_off : on ≡ false → Err OffDisc ≡ walked n d first
+        walk_off z = sym (rw (← c.is, rest_off more n (sound_page n d) (next_page n d) (35 * n + 1) k (counts k m) p inside (sym o ∙ z)) refl)
 
         module _ (y : on ≡ true) (b : Bool) (s : b ≡ plain_names (entries_of n d p)) where
-          pub walk_bad : b ≡ false → v ≡ no_pages 6 → v ≡ counted (walked n d first)
+          pub walk_bad : b ≡ false → Err BadLetter ≡ walked n d first
           unfolding sound_page
-          walk_bad z e =
-              e ∙ rw (← c.is, rest_bad more n (sound_page n d) (next_page n d) (35 * n + 1) k (counts k m) p inside BadLetter (sym o ∙ y) (rw (← s, z) refl)) refl
+          walk_bad z =
+              sym (rw (← c.is, rest_bad more n (sound_page n d) (next_page n d) (35 * n + 1) k (counts k m) p inside BadLetter (sym o ∙ y) (rw (← s, z) refl)) refl)
 
     module _ (most k m : ℕ) (p : Place) (c : Walking most k m p) (h : k < most) (on : Bool) (o : on ≡ on_disk n p) (y : on ≡ true)
         (b : Bool) (s : b ≡ plain_names (entries_of n d p)) (z : b ≡ true) (r : ℕ) (q : r ≡ length (entries_of n d p)) (few : r ≤ 7) (l : Bool) (e : l ≡ last_page n d p) where
-      sound : sound_page n d p ≡ given tt
+      sound : sound_page n d p ≡ Ok tt
       unfolding sound_page
       sound = rw (← s, z) refl
 
-      pub walk_last : l ≡ true → counts (k + 1) (m + r) ≡ counted (walked n d first)
+      pub walk_last : l ≡ true → Ok (counts (k + 1) (m + r)) ≡ walked n d first
       unfolding next_page
       walk_last t =
           rw (← c.is, rest_end more n (sound_page n d) (next_page n d) (35 * n + 1) k (counts k m) p (omega (arith, c.budget)) (sym o ∙ y, sound) (rw (← e, t) refl), q) refl
@@ -271,22 +253,17 @@ module _ (n : ℕ) (d : List ℕ) where
 pub ruleset walks = (walk_none, walk_ring, walk_off, walk_bad, walk_last, walk_more, not-true, not-false, rules)
 
 -- ---- the catalog
-module _ (n : ℕ) (d : List ℕ) (k : ℕ) (e : k ≡ number (readable n d)) (v : Pages) where
-  pub pages_refused : (k ≡ 0 → ⊥) → v ≡ no_pages k → v ≡ counted (pages_counted n d)
+module _ (n : ℕ) (d : List ℕ) where
+  pub pages_refused : (r : Refusal) → Err r ≡ readable n d → Err r ≡ pages_counted n d
   unfolding pages_counted pages
-  pages_refused h w = w ∙ go (readable n d) e
-    where
-      go : (o : Outcome (Unit {0})) → k ≡ number o
-          → no_pages k ≡ counted ((o >> walk n (sound_page n d) (next_page n d) (sectors n + 1) [] (first_page n d)) >>= λ ps. given (counts_of n d ps))
-      go (refused r) q = rw q refl
-      go (given u) q = absurd (h q)
+  pages_refused r e = rw (← e) refl
 
-  pub pages_walked : k ≡ 0 → (p : Place) → p ≡ first_page n d → v ≡ counted (walked n d p) → v ≡ counted (pages_counted n d)
+  pub pages_walked : Ok tt ≡ readable n d → (p : Place) (v : Outcome Pages) → p ≡ first_page n d → v ≡ walked n d p → v ≡ pages_counted n d
   unfolding pages_counted pages walked
-  pages_walked z p a w = let o = number_0 (readable n d) (sym e ∙ z) in w ∙ rw (a, pages_counted, o.1) refl
+  pages_walked z p v a w = w ∙ rw (a, ← z) refl
 
 -- by the disk's own size
-pub pages_at : (d : List ℕ) (v : Pages) (n : ℕ) → n ≡ per_of d → v ≡ counted (pages_counted n d) → v ≡ counted (pages_counted (per_of d) d)
+pub pages_at : (d : List ℕ) (v : Outcome Pages) (n : ℕ) → n ≡ per_of d → v ≡ pages_counted n d → v ≡ pages_counted (per_of d) d
 pages_at d v n e q = rw e at q
 
 pub ruleset catalogs = (pages_refused, pages_walked, pages_at, rules)

@@ -18,7 +18,8 @@ use Rattle.disk.specs.declared.Place.{Place}
 use Rattle.disk.specs.Disk.{start, link_of}
 use Rattle.disk.specs.Chain.{walk}
 use Rattle.disk.proofs.Steps.{made, rest, joins, joined_is, rest_start, rest_within, rest_last, rest_on, rest_room}
-use Rattle.outcome.specs.Outcome.{Outcome, refused, given, ◌>>=◌, left_by}
+use Rattle.std.specs.Prelude.{Ok, Err}
+use Rattle.outcome.specs.Outcome.{Outcome, ◌>>=◌, left_by}
 use borrow.Rule.Slice.PartMut.{put_mid, mid_of}
 use Rattle.catalog.specs.declared.FileEntry.{FileEntry}
 use Rattle.catalog.specs.Catalog.{Entry, shown, valid_file, live, entry_from, entry_at, entries_of, last_page, sound_page, next_page}
@@ -127,9 +128,9 @@ module _ (n : ℕ) (d : List ℕ) where
   join_pages = joins (page_bytes n d)
 
   -- all pages, joined
-  made_listed : (o : Outcome (List Place)) → made join_pages [] o ≡ (o >>= λ ps. given (flat_map (page_bytes n d) ps))
-  made_listed (refused r) = refl
-  made_listed (given ps) = ap given (joined_is (page_bytes n d) [] ps)
+  made_listed : (o : Outcome (List Place)) → made join_pages [] o ≡ (o >>= λ ps. Ok (flat_map (page_bytes n d) ps))
+  made_listed (Err r) = refl
+  made_listed (Ok ps) = ap Ok (joined_is (page_bytes n d) [] ps)
 
   module _ (first : Place) where
     -- k pages are written, w is the place for the next, and p is that page
@@ -138,9 +139,9 @@ module _ (n : ℕ) (d : List ℕ) where
       pub count : k ≤ most
       pub done : List ℕ
       pub whole : List ℕ
-      pub total : walk_listed n d first ≡ given whole
+      pub total : walk_listed n d first ≡ Ok whole
       pub fits : length whole ≤ length o₀
-      pub is : rest join_pages n (sound_page n d) (next_page n d) (35 * n + 1) k done p ≡ given whole
+      pub is : rest join_pages n (sound_page n d) (next_page n d) (35 * n + 1) k done p ≡ Ok whole
       pub place : w ≡ length done
       pub puts : Put 0 done o₀ o
 

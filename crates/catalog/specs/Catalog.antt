@@ -6,8 +6,9 @@ use Rattle.std.proofs.Math.Option.{Option, none, some}
 use Rattle.lists.specs.Fill.{below}
 use Rattle.lists.specs.Select.{all, filter, among}
 use Rattle.lists.specs.Words.{word_at}
+use Rattle.std.specs.Prelude.{Ok}
 use Rattle.outcome.specs.declared.Refusal.TheVariants.{BadLetter}
-use Rattle.outcome.specs.Outcome.{Outcome, given, ◌>>=◌, ◌>>◌, require}
+use Rattle.outcome.specs.Outcome.{Outcome, ◌>>=◌, ◌>>◌, require}
 use Rattle.disk.specs.declared.Place.{Place}
 use Rattle.disk.specs.Disk.{place, byte_of, link_of, start, sectors}
 use Rattle.disk.specs.Vtoc.{vtoc, readable}
@@ -101,4 +102,4 @@ module _ (n : ℕ) (d : List ℕ) where
 
   -- the catalog: the live entries of all pages
   unfoldable pub catalog : Outcome (List Entry)
-  catalog = pages >>= λ ps. given (flat_map entries_of ps)
+  catalog = pages >>= λ ps. Ok (flat_map entries_of ps)

@@ -6,33 +6,32 @@ ghost use Rattle.lists.specs.Select.{among};
 ghost use Rattle.outcome.specs.Outcome.{left_by};
 ghost use Rattle.disk.specs.Disk.{per_of, start};
 ghost use Rattle.catalog.specs.Catalog.{known_type, kind_of, letter, valid_file, live, entry_from, entries_of, plain_names, last_page, first_page};
-ghost use Rattle.catalog.specs.Pages.{plain_entry, no_pages, counted, walked, pages_counted};
-ghost use Rattle.catalog.specs.Listing.{ShownIs, name_of, entry_head, file_entry, bytes37, live_bytes, page_bytes, Wrote, Fronts, Ready, walk_listed, no_listing, Catalogued};
+ghost use Rattle.catalog.specs.Pages.{plain_entry, walked, pages_counted};
+ghost use Rattle.catalog.specs.Listing.{ShownIs, name_of, entry_head, file_entry, bytes37, live_bytes, page_bytes, Wrote, Fronts, Ready, walk_listed, Catalogued};
 
 use disk::{
-    Place, Sector, Track, byte_of, chain_budget, link_of, on_disk, sector_start, sectors_of,
-    table_refusal,
+    Place, Sector, Track, byte_of, chain_budget, link_of, on_disk, readable, sector_start,
+    sectors_of,
 };
 use lists::{byte_at, copy_at, part, put_word, word_at};
-use outcome::{BAD_LETTER, Handed, OFF_DISC, RING, TRAY_SHORT, accepted, refused};
+use outcome::Refusal;
 
-// The number of pages and of live entries that a catalog has, or the number of its refusal.
-#[derive(Clone, Copy)]
+// The number of pages and of live entries that a catalog has.
+#[derive(Clone, Copy, Debug, PartialEq, Eq)]
 pub struct Pages {
-    pub refusal: u8,
     pub count: u16,
     pub entries: u16,
 }
 
 // A shown name: its letters, zeros behind them, and how many letters it has.
-#[derive(Clone, Copy)]
+#[derive(Clone, Copy, Debug, PartialEq, Eq)]
 pub struct Name {
     pub letters: [u8; 30],
     pub length: u8,
 }
 
 // An entry without its name.
-#[derive(Clone, Copy)]
+#[derive(Clone, Copy, Debug, PartialEq, Eq)]
 pub struct EntryHead {
     pub list: Place,
     pub file_type: u8,
@@ -41,7 +40,7 @@ pub struct EntryHead {
 }
 
 // An entry. The type is one of the nine numbers; locked is 0 or 1.
-#[derive(Clone, Copy)]
+#[derive(Clone, Copy, Debug, PartialEq, Eq)]
 pub struct FileEntry {
     pub list: Place,
     pub file_type: u8,
@@ -50,54 +49,41 @@ pub struct FileEntry {
     pub count: u16,
 }
 
-// The answer of the catalog call: the bytes handed over, and the number of pages followed.
-#[derive(Clone, Copy)]
+// The answer of the catalog call: how many bytes it handed over, and the number of pages followed.
+#[derive(Clone, Copy, Debug, PartialEq, Eq)]
 pub struct Listing {
-    pub handed: Handed,
+    pub length: usize,
     pub pages: u16,
 }
 
 // A list track that an entry in use has.
+#[tactic(auto, unfolding(crate::specs::Catalog::valid_file))]
 pub fn valid_file(track: u8) -> bool
     ensures { result ≡ valid_file track }
 {
-    if track == 0 {
-        return false;
-    }
-    if track == 255 {
-        return false;
-    }
-    true
+    track != 0 && track != 255
 }
 
 // One of the eight codes.
 fn known_type(code: u8) -> bool
     ensures { result ≡ known_type code }
 {
-    (code == 0)
-        | ((code == 1)
-            | ((code == 2)
-                | ((code == 4) | ((code == 8) | ((code == 10) | ((code == 20) | (code == 40)))))))
+    matches!(code, 0 | 1 | 2 | 4 | 8 | 10 | 20 | 40)
 }
 
 // The type of a code: one of the nine numbers.
+#[tactic(auto, unfolding(crate::specs::Catalog::kind_of))]
 pub fn file_type(code: u8) -> u8
     ensures { result ≡ kind_of code }
 {
-    if known_type(code) {
-        return code;
-    }
-    41
+    if known_type(code) { code } else { 41 }
 }
 
 // A name byte as it is shown.
 pub fn letter_of(b: u8) -> u8
     ensures { result ≡ letter b }
 {
-    if 128 < b {
-        return b - 128;
-    }
-    b
+    if 128 < b { b - 128 } else { b }
 }
 
 // Where entry i of a page starts.
@@ -108,16 +94,13 @@ pub fn entry_start(per: u8, p: Place, i: u8) -> usize
     sector_start(per, p) + (11 + 35 * (i as usize))
 }
 
-// 80h stands among the n bytes of a name. All are looked at: with 30 for n the loop becomes vector code.
-fn bad_among(raw: &[u8], n: usize) -> bool
-    requires { n ≡ length raw.now }
+// 80h stands among the bytes of a name. All are looked at: with 30 of them the loop becomes vector code.
+fn bad_among(raw: &[u8]) -> bool
     ensures { result ≡ among 128 raw.now }
 {
     let mut bad = false;
-    let mut k: usize = 0;
-    while k < n {
-        bad = bad | (raw[k] == 128);
-        k += 1;
+    for b in raw {
+        bad = bad | (*b == 128);
     }
     bad
 }
@@ -126,22 +109,16 @@ fn bad_among(raw: &[u8], n: usize) -> bool
 pub fn bad_letter(disk: &[u8], i: usize) -> bool
     ensures { result ≡ among 128 (take 30 (drop i disk.now)) }
 {
-    let raw = part(disk, i, 30);
-    if raw.len() == 30 {
-        return bad_among(raw, 30);
-    }
-    bad_among(raw, raw.len())
+    bad_among(part(disk, i, 30))
 }
 
 // The entry from x on is not in use, or its name holds no 80h.
+#[tactic(auto, unfolding(crate::specs::Pages::plain_entry))]
 fn plain_entry(disk: &[u8], x: usize) -> bool
     requires { x < 16793600 }
     ensures { result ≡ plain_entry (entry_from disk.now x) }
 {
-    if valid_file(byte_at(disk, x)) {
-        return !bad_letter(disk, x + 3);
-    }
-    true
+    !valid_file(byte_at(disk, x)) || !bad_letter(disk, x + 3)
 }
 
 // No live name of a page holds 80h.
@@ -161,10 +138,7 @@ fn live_at(disk: &[u8], x: usize) -> u16
     ensures is { result ≡ cond (live (entry_from disk.now x)) 1 0 }
     ensures small { result ≤ 1 }
 {
-    if valid_file(byte_at(disk, x)) {
-        return 1;
-    }
-    0
+    if valid_file(byte_at(disk, x)) { 1 } else { 0 }
 }
 
 // The live entries of a page.
@@ -180,55 +154,37 @@ fn live_entries(disk: &[u8], per: u8, p: Place) -> u16
 }
 
 // A page whose link has a zero is the last.
+#[tactic(auto, unfolding(crate::specs::Catalog::last_page))]
 pub fn last_page(disk: &[u8], per: u8, p: Place) -> bool
     ensures { result ≡ last_page per disk.now p }
 {
-    if byte_of(disk, per, p, 1) == 0 {
-        return true;
-    }
-    byte_of(disk, per, p, 2) == 0
-}
-
-// A refusal: no pages, no entries.
-fn no_pages(number: u8) -> Pages
-    ensures { result ≡ no_pages number }
-{
-    Pages {
-        refusal: number,
-        count: 0,
-        entries: 0,
-    }
+    byte_of(disk, per, p, 1) == 0 || byte_of(disk, per, p, 2) == 0
 }
 
 // The pages from `first` on: 3, 4, 6 page by page.
-fn count_from(disk: &[u8], per: u8, first: Place) -> Pages
-    ensures { result ≡ counted (walked per disk.now first) }
+fn count_from(disk: &[u8], per: u8, first: Place) -> Result<Pages, Refusal>
+    ensures { result ≡ walked per disk.now first }
 {
     let most = chain_budget(per);
     let mut p = first;
-    let mut k: u16 = 0;
-    let mut m: u16 = 0;
-    loop {
-        if most <= k {
-            return no_pages(RING);
-        }
+    let mut entries: u16 = 0;
+    for k in 0..most {
         if !on_disk(per, p) {
-            return no_pages(OFF_DISC);
+            return Err(Refusal::OffDisc);
         }
         if !plain_page(disk, per, p) {
-            return no_pages(BAD_LETTER);
+            return Err(Refusal::BadLetter);
         }
-        k += 1;
-        m += live_entries(disk, per, p);
+        entries += live_entries(disk, per, p);
         if last_page(disk, per, p) {
-            return Pages {
-                refusal: 0,
-                count: k,
-                entries: m,
-            };
+            return Ok(Pages {
+                count: k + 1,
+                entries,
+            });
         }
         p = link_of(disk, per, p);
     }
+    Err(Refusal::Ring)
 }
 
 // The first page: its track and sector are bytes 1 and 2 of the table.
@@ -243,19 +199,17 @@ pub fn first_page(disk: &[u8], per: u8) -> Place
 }
 
 // The pages and live entries of the catalog of a disk of `per` sectors a track; refusals 1, 2, then page by page 3, 4, 6.
-fn count_pages_of(disk: &[u8], per: u8) -> Pages
-    ensures { result ≡ counted (pages_counted per disk.now) }
+#[tactic(auto, unfolding(crate::specs::Pages::pages_counted, crate::specs::Pages::walked, crate::specs::Catalog::pages))]
+fn count_pages_of(disk: &[u8], per: u8) -> Result<Pages, Refusal>
+    ensures { result ≡ pages_counted per disk.now }
 {
-    let number = table_refusal(disk, per);
-    if number != 0 {
-        return no_pages(number);
-    }
+    readable(disk, per)?;
     count_from(disk, per, first_page(disk, per))
 }
 
 // The same of a flat disk.
-pub fn count_pages(disk: &[u8]) -> Pages
-    ensures { result ≡ counted (pages_counted (per_of disk.now) disk.now) }
+pub fn count_pages(disk: &[u8]) -> Result<Pages, Refusal>
+    ensures { result ≡ pages_counted (per_of disk.now) disk.now }
 {
     count_pages_of(disk, sectors_of(disk))
 }
@@ -264,22 +218,17 @@ pub fn count_pages(disk: &[u8]) -> Pages
 fn name_bytes(raw: &[u8]) -> usize
     ensures { result ≡ length (take 30 raw.now) }
 {
-    if raw.len() < 30 {
-        return raw.len();
-    }
-    30
+    30usize.min(raw.len())
 }
 
 // How many letters of a name are shown: without the spaces at the end.
 fn shown_length(raw: &[u8]) -> usize
     ensures { ShownIs raw.now result }
 {
-    let mut n = name_bytes(raw);
-    while 0 < n {
-        if letter_of(raw[n - 1]) != 32 {
-            return n;
+    for n in (0..name_bytes(raw)).rev() {
+        if letter_of(raw[n]) != 32 {
+            return n + 1;
         }
-        n -= 1;
     }
     0
 }
@@ -290,13 +239,11 @@ pub fn filename(raw: &[u8]) -> Name
 {
     let n = shown_length(raw);
     let mut letters = [0u8; 30];
-    let mut k: usize = 0;
-    while k < n {
+    for k in 0..n {
         letters[k] = letter_of(raw[k]);
-        k += 1;
     }
     Name {
-        letters: letters,
+        letters,
         length: n as u8,
     }
 }
@@ -438,49 +385,34 @@ fn write_pages(disk: &[u8], per: u8, first: Place, out: &mut [u8])
 {
     let most = chain_budget(per);
     let mut p = first;
-    let mut k: u16 = 0;
     let mut w: usize = 0;
-    while k < most {
+    for _turn in 0..most {
         w += parse_catalog(disk, per, p, &mut out[w..]);
         if last_page(disk, per, p) {
             return;
         }
         p = link_of(disk, per, p);
-        k += 1;
-    }
-}
-
-// A refusal: nothing handed over, no pages.
-fn no_listing(number: u8) -> Listing
-    ensures { result ≡ no_listing number }
-{
-    Listing {
-        handed: refused(number),
-        pages: 0,
     }
 }
 
 // The catalog of a disk of `per` sectors a track, 37 bytes an entry, with the number of pages followed; refusals 1, 2, then page by page 3, 4, 6, and 12.
-fn catalogs_of(disk: &[u8], per: u8, out: &mut [u8]) -> Listing
+fn catalogs_of(disk: &[u8], per: u8, out: &mut [u8]) -> Result<Listing, Refusal>
     ensures { Catalogued per disk.now out.old out.new result }
 {
-    let found = count_pages_of(disk, per);
-    if found.refusal != 0 {
-        return no_listing(found.refusal);
-    }
-    let size = 37 * (found.entries as usize);
-    if out.len() < size {
-        return no_listing(TRAY_SHORT);
+    let found = count_pages_of(disk, per)?;
+    let length = 37 * (found.entries as usize);
+    if out.len() < length {
+        return Err(Refusal::TrayShort);
     }
     write_pages(disk, per, first_page(disk, per), out);
-    Listing {
-        handed: accepted(size),
+    Ok(Listing {
+        length,
         pages: found.count,
-    }
+    })
 }
 
 // The same of a flat disk.
-pub fn parse_catalogs(disk: &[u8], out: &mut [u8]) -> Listing
+pub fn parse_catalogs(disk: &[u8], out: &mut [u8]) -> Result<Listing, Refusal>
     ensures { Catalogued (per_of disk.now) disk.now out.old out.new result }
 {
     catalogs_of(disk, sectors_of(disk), out)

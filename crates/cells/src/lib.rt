@@ -1,283 +1,253 @@
 // The sectors of the picture: 30 apart, each a square of 27 and its outline, with its title; and what is drawn upon them.
 #![tactic(auto)]
 
+ghost use Rattle.std.specs.Prelude.{◌≤◌};
+
 use disk::{Place, Sector, Track};
 use holders::is_free;
-use pen::colours::{dark, light};
-use pen::{add, form, shown};
-use screen::sector_number;
-use uses::{DATA, LIST, PAGE, VTOC, is_shared, name_of, owner, role, use_at};
+use pen::colours::{Colour, dark, light};
+use pen::shown;
+use std::alloc::{AllocError, Global};
+use uses::{Holder, Uses, name_of};
 
-// A sector of the picture: where it stands, its number of `uses`, and whether the map calls it free.
+pub const TRACKS: u8 = 35;
+
+// A disk that is drawn: its bytes, its sectors a track, what each serves, and its catalog, 37 bytes an entry.
 #[derive(Clone, Copy)]
-pub struct Seat {
-    pub track: u8,
-    pub sector: u8,
-    pub number: u32,
-    pub free: bool,
+pub struct Drawing<'a> {
+    pub disk: &'a [u8],
+    pub per: u8,
+    pub uses: &'a Uses,
+    pub entries: &'a [u8],
+    pub alloc: Global,
 }
 
-fn seat_of(disk: &[u8], per: u8, uses: &[u32], track: u8, sector: u8) -> Seat {
-    let p = Place {
-        track: Track(track),
-        sector: Sector(sector),
-    };
-    Seat {
-        track: track,
-        sector: sector,
-        number: use_at(uses, sector_number(per, p)),
-        free: is_free(disk, per, p),
+// A sector of the picture: where it stands, its first holder, whether it has more, and whether the map calls it free.
+#[derive(Clone, Copy)]
+struct Seat {
+    track: u8,
+    sector: u8,
+    holder: Option<Holder>,
+    shared: bool,
+    free: bool,
+}
+
+// The name of a file in at most so many columns.
+const NAME_COLUMNS: usize = 1000;
+
+impl Seat {
+    // The left edge of the sector, and the upper one.
+    fn left(self) -> u32
+        ensures { result ≤ 7650 }
+    {
+        30 * u32::from(self.track)
     }
-}
 
-// In a chain, and free in the map.
-fn is_loose(s: Seat) -> bool {
-    (role(s.number) != 0) & s.free
-}
-
-// The style of a square.
-fn style(s: Seat) -> u8 {
-    match role(s.number) {
-        VTOC => b'v',
-        PAGE => b'k',
-        LIST => b'g',
-        DATA => b'j',
-        _ => if s.free { b'o' } else { b'u' },
+    fn top(self) -> u32
+        ensures { result ≤ 7650 }
+    {
+        30 * u32::from(self.sector)
     }
-}
 
-// The colour of the outline of a file's square.
-fn edge(s: Seat) -> u32 {
-    if role(s.number) == LIST {
-        return dark(owner(s.number));
+    fn file(self) -> Option<u32> {
+        self.holder?.file()
     }
-    light(owner(s.number))
-}
 
-// The square of a sector, its end left open.
-fn square(out: &mut [u8], n: usize, s: Seat) -> usize {
-    let x = 30 * (s.track as u32) + 1;
-    let y = 30 * (s.sector as u32) + 1;
-    let file = owner(s.number);
-    if file == 0 {
-        return form(
+    // In a chain, and free in the map.
+    fn is_loose(self) -> bool {
+        self.holder.is_some() & self.free
+    }
+
+    // The style of its square.
+    fn style(self) -> char {
+        match self.holder {
+            Some(Holder::Vtoc) => 'v',
+            Some(Holder::Page) => 'k',
+            Some(Holder::List(_)) => 'g',
+            Some(Holder::Data(_)) => 'j',
+            None if self.free => 'o',
+            None => 'u',
+        }
+    }
+
+    // The colour of the outline of a file's square.
+    fn edge(self, file: u32) -> Colour {
+        match self.holder {
+            Some(Holder::List(_)) => dark(file),
+            _ => light(file),
+        }
+    }
+
+    // Its square, the end left open.
+    fn square(self, out: &mut String) -> Result<(), AllocError> {
+        let x = self.left() + 1;
+        let y = self.top() + 1;
+        let style = self.style();
+        write!(
             out,
-            n,
-            b"<rect x=\"%\" y=\"%\" width=\"27\" height=\"27\" class=\"@\">",
-            &[x, y, style(s) as u32],
-        );
+            "<rect x=\"{x}\" y=\"{y}\" width=\"27\" height=\"27\" class=\"{style}\""
+        )?;
+        if let Some(file) = self.file() {
+            let fill = light(file);
+            let edge = self.edge(file);
+            write!(out, " fill=\"{fill}\" stroke=\"{edge}\"")?;
+        }
+        out.push_str(">")
     }
-    form(
-        out,
-        n,
-        b"<rect x=\"%\" y=\"%\" width=\"27\" height=\"27\" class=\"@\" fill=\"#$\" stroke=\"#$\">",
-        &[x, y, style(s) as u32, light(file), edge(s)],
-    )
-}
 
-// What a sector in no chain is.
-fn say_empty(out: &mut [u8], n: usize, free: bool) -> usize {
-    if free {
-        return add(out, n, b"free");
+    // What it serves, in words.
+    fn say_use(self, out: &mut String, d: Drawing) -> Result<(), AllocError> {
+        match self.holder {
+            Some(Holder::Vtoc) => out.push_str("VTOC"),
+            Some(Holder::Page) => out.push_str("catalog page"),
+            Some(Holder::List(file)) => {
+                out.push_str("list of ")?;
+                shown(out, d.alloc, name_of(d.entries, file), NAME_COLUMNS)
+            },
+            Some(Holder::Data(file)) => shown(out, d.alloc, name_of(d.entries, file), NAME_COLUMNS),
+            None if self.free => out.push_str("free"),
+            None => out.push_str("used in the map, in no chain"),
+        }
     }
-    add(out, n, b"used in the map, in no chain")
-}
 
-// What a sector serves, in words.
-fn say_use(out: &mut [u8], n: usize, entries: &[u8], s: Seat) -> usize {
-    match role(s.number) {
-        VTOC => add(out, n, b"VTOC"),
-        PAGE => add(out, n, b"catalog page"),
-        LIST => {
-            let m = add(out, n, b"list of ");
-            shown(out, m, name_of(entries, owner(s.number)), 1000)
-        },
-        DATA => shown(out, n, name_of(entries, owner(s.number)), 1000),
-        _ => say_empty(out, n, s.free),
+    // The square with its title.
+    fn cell(self, out: &mut String, d: Drawing) -> Result<(), AllocError> {
+        let track = self.track;
+        let sector = self.sector;
+        self.square(out)?;
+        write!(out, "<title>{track}/{sector}: ")?;
+        self.say_use(out, d)?;
+        if self.shared {
+            out.push_str(", shared")?;
+        }
+        if self.is_loose() {
+            out.push_str(", free in the map")?;
+        }
+        out.push_str("</title></rect>\n")
     }
-}
 
-fn say_shared(out: &mut [u8], n: usize, s: Seat) -> usize {
-    if is_shared(s.number) {
-        return add(out, n, b", shared");
+    // The red cross of a shared sector, and the red outline of one in a chain that the map calls free.
+    fn marks(self, out: &mut String) -> Result<(), AllocError> {
+        if self.shared {
+            let x = self.left() + 2;
+            let y = self.top() + 2;
+            write!(
+                out,
+                "<path d=\"M{x} {y}l25 25m-25 0l25-25\" class=\"x\"/>\n"
+            )?;
+        }
+        if self.is_loose() {
+            let x = self.left() + 1;
+            let y = self.top() + 1;
+            write!(
+                out,
+                "<rect x=\"{x}\" y=\"{y}\" width=\"27\" height=\"27\" class=\"d\"/>\n"
+            )?;
+        }
+        Ok(())
     }
-    n
-}
 
-fn say_loose(out: &mut [u8], n: usize, s: Seat) -> usize {
-    if is_loose(s) {
-        return add(out, n, b", free in the map");
+    // The letters of a holder: V, C or L, or none, and the number of its file. They are small where there are four.
+    fn letters(self, out: &mut String) -> Result<(), AllocError> {
+        let Some(holder) = self.holder else {
+            return Ok(());
+        };
+        let (letter, size) = match holder {
+            Holder::Vtoc => ("V", 'w'),
+            Holder::Page => ("C", 'p'),
+            Holder::List(file) => ("L", if file < 100 { 'l' } else { 's' }),
+            Holder::Data(file) => ("", if file < 1000 { 'b' } else { 's' }),
+        };
+        let x = self.left() + 14;
+        let y = self.top() + 19;
+        write!(out, "<text x=\"{x}.5\" y=\"{y}\" class=\"{size}\"")?;
+        match holder.file() {
+            Some(file) => {
+                let colour = light(file);
+                write!(out, " stroke=\"{colour}\">{letter}{file}</text>\n")
+            },
+            None => write!(out, ">{letter}</text>\n"),
+        }
     }
-    n
-}
-
-fn cell(out: &mut [u8], n: usize, entries: &[u8], s: Seat) -> usize {
-    let a = square(out, n, s);
-    let b = form(out, a, b"<title>%/%: ", &[s.track as u32, s.sector as u32]);
-    let c = say_use(out, b, entries, s);
-    let d = say_shared(out, c, s);
-    let e = say_loose(out, d, s);
-    add(out, e, b"</title></rect>\n")
-}
-
-// The red cross of a shared sector.
-fn cross(out: &mut [u8], n: usize, s: Seat) -> usize {
-    if is_shared(s.number) {
-        return form(
-            out,
-            n,
-            b"<path d=\"M% %l25 25m-25 0l25-25\" class=\"x\"/>\n",
-            &[30 * (s.track as u32) + 2, 30 * (s.sector as u32) + 2],
-        );
-    }
-    n
-}
-
-// The red outline of a sector in a chain that the map calls free.
-fn outline(out: &mut [u8], n: usize, s: Seat) -> usize {
-    if is_loose(s) {
-        return form(
-            out,
-            n,
-            b"<rect x=\"%\" y=\"%\" width=\"27\" height=\"27\" class=\"d\"/>\n",
-            &[30 * (s.track as u32) + 1, 30 * (s.sector as u32) + 1],
-        );
-    }
-    n
-}
-
-fn marks(out: &mut [u8], n: usize, s: Seat) -> usize {
-    let m = cross(out, n, s);
-    outline(out, m, s)
-}
-
-// The style of its letters: small, where there are four.
-fn size(s: Seat) -> u8 {
-    let file = owner(s.number);
-    match role(s.number) {
-        VTOC => b'w',
-        PAGE => b'p',
-        LIST => if file < 100 { b'l' } else { b's' },
-        _ => if file < 1000 { b'b' } else { b's' },
-    }
-}
-
-// Its first letter: V, C or L, or none.
-fn first(s: Seat) -> u8 {
-    match role(s.number) {
-        VTOC => b'V',
-        PAGE => b'C',
-        LIST => b'L',
-        _ => 0,
-    }
-}
-
-// The letters of a sector: the first, and the number of its file.
-fn letters(out: &mut [u8], n: usize, s: Seat) -> usize {
-    let x = 30 * (s.track as u32) + 14;
-    let y = 30 * (s.sector as u32) + 19;
-    let file = owner(s.number);
-    if role(s.number) == 0 {
-        return n;
-    }
-    if file == 0 {
-        return form(
-            out,
-            n,
-            b"<text x=\"%.5\" y=\"%\" class=\"@\">@</text>\n",
-            &[x, y, size(s) as u32, first(s) as u32],
-        );
-    }
-    form(
-        out,
-        n,
-        b"<text x=\"%.5\" y=\"%\" class=\"@\" stroke=\"#$\">@%</text>\n",
-        &[x, y, size(s) as u32, light(file), first(s) as u32, file],
-    )
 }
 
 // The layers of the picture.
-pub const CELLS: u8 = 0;
+#[derive(Clone, Copy, Debug, PartialEq, Eq)]
+pub enum Layer {
+    Cells,
+    Marks,
+    Letters,
+}
 
-pub const MARKS: u8 = 1;
+// The sectors that the key counts: those of a holder; free ones; those in no chain that the map calls used; shared ones; those in a chain that it calls free.
+#[derive(Clone, Copy, Debug, PartialEq, Eq)]
+pub enum Kind {
+    Vtoc,
+    Pages,
+    Lists,
+    Data,
+    Free,
+    Lost,
+    Shared,
+    Loose,
+}
 
-pub const LETTERS: u8 = 2;
-
-fn piece(out: &mut [u8], n: usize, entries: &[u8], layer: u8, s: Seat) -> usize {
-    match layer {
-        CELLS => cell(out, n, entries, s),
-        MARKS => marks(out, n, s),
-        _ => letters(out, n, s),
+impl Kind {
+    fn has(self, s: Seat) -> bool {
+        match self {
+            Kind::Vtoc => matches!(s.holder, Some(Holder::Vtoc)),
+            Kind::Pages => matches!(s.holder, Some(Holder::Page)),
+            Kind::Lists => matches!(s.holder, Some(Holder::List(_))),
+            Kind::Data => matches!(s.holder, Some(Holder::Data(_))),
+            Kind::Free => s.holder.is_none() & s.free,
+            Kind::Lost => s.holder.is_none() & !s.free,
+            Kind::Shared => s.shared,
+            Kind::Loose => s.is_loose(),
+        }
     }
 }
 
-fn column(
-    disk: &[u8],
-    per: u8,
-    uses: &[u32],
-    entries: &[u8],
-    layer: u8,
-    track: u8,
-    out: &mut [u8],
-    at: usize,
-) -> usize {
-    let mut n = at;
-    for sector in 0..per {
-        let s = seat_of(disk, per, uses, track, sector);
-        n = piece(out, n, entries, layer, s);
+impl<'a> Drawing<'a> {
+    fn seat(self, track: u8, sector: u8) -> Seat {
+        let p = Place {
+            track: Track(track),
+            sector: Sector(sector),
+        };
+        let served = self.uses.at(p);
+        Seat {
+            track,
+            sector,
+            holder: served.first(),
+            shared: served.is_shared(),
+            free: is_free(self.disk, self.per, p),
+        }
     }
-    n
-}
 
-// One layer of all sectors.
-pub fn columns(
-    disk: &[u8],
-    per: u8,
-    uses: &[u32],
-    entries: &[u8],
-    layer: u8,
-    out: &mut [u8],
-    at: usize,
-) -> usize {
-    let mut n = at;
-    for track in 0..35u8 {
-        n = column(disk, per, uses, entries, layer, track, out, n);
+    // One layer of all sectors.
+    pub fn layer(self, out: &mut String, layer: Layer) -> Result<(), AllocError> {
+        for track in 0..TRACKS {
+            for sector in 0..self.per {
+                let seat = self.seat(track, sector);
+                match layer {
+                    Layer::Cells => seat.cell(out, self)?,
+                    Layer::Marks => seat.marks(out)?,
+                    Layer::Letters => seat.letters(out)?,
+                }
+            }
+        }
+        Ok(())
     }
-    n
-}
 
-// The sectors that the key counts: those of a role; free ones; those in no chain that the map calls used; shared ones; those in a chain that it calls free.
-pub const FREE: u32 = 5;
-
-pub const LOST: u32 = 6;
-
-pub const SHARED: u32 = 7;
-
-pub const LOOSE: u32 = 8;
-
-fn is_kind(s: Seat, kind: u32) -> bool {
-    let r = role(s.number);
-    match kind {
-        FREE => (r == 0) & s.free,
-        LOST => (r == 0) & !s.free,
-        SHARED => is_shared(s.number),
-        LOOSE => is_loose(s),
-        _ => r == kind,
+    // How many sectors of a kind there are.
+    pub fn count(self, kind: Kind) -> u32 {
+        let mut n: u32 = 0;
+        for track in 0..TRACKS {
+            for sector in 0..self.per {
+                if kind.has(self.seat(track, sector)) {
+                    n = n.saturating_add(1);
+                }
+            }
+        }
+        n
     }
-}
-
-fn count_column(disk: &[u8], per: u8, uses: &[u32], kind: u32, track: u8, before: u64) -> u64 {
-    let mut n = before;
-    for sector in 0..per {
-        n = screen::sums::more(n, is_kind(seat_of(disk, per, uses, track, sector), kind));
-    }
-    n
-}
-
-pub fn count(disk: &[u8], per: u8, uses: &[u32], kind: u32) -> u32 {
-    let mut n: u64 = 0;
-    for track in 0..35u8 {
-        n = count_column(disk, per, uses, kind, track, n);
-    }
-    (n % 65536) as u32
 }

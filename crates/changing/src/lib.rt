@@ -8,126 +8,94 @@ use arguments::is_dash;
 use arguments::letters::unescape;
 use disk::{Place, Sector, Track};
 use lists::byte_at;
-use outcome::{NAME_TAKEN, NO_SPACE, NOT_CLEAN, OFF_SIZE, OTHER_SIDE, OVER_LIMIT, UNWRITABLE_NAME};
+use outcome::Refusal;
 use saving::{data_for, lists_for};
-use screen::sums::more;
+use screen::space::{catalog_space, disk_space};
 use screen::{
-    GOOD, REFUSED, STDERR_FILENO, STDOUT_FILENO, TROUBLE, count, finish, names, refusal, tell,
-    text, text_number,
+    Failure, STDERR_FILENO, STDOUT_FILENO, count, finish, names, refusal, tell, text, text_number,
 };
-use side_report::{Caller, caller_said, say_held, tell_limit, tell_owner};
+use side_report::{Caller, say_held, tell_limit, tell_owner};
 use storing::{read_front, replace_file, write_file};
 
-// Space for a disk of either edition.
-fn disk_space() -> [u8; 143360] {
-    [0; 143360]
-}
-
-// Space for the longest catalog, 3,920 entries of 37 bytes.
-fn catalog_space() -> [u8; 145040] {
-    [0; 145040]
-}
+// The longest file that is saved.
+pub const LONGEST: usize = 32768;
 
 // Space for the longest file, and one byte more.
 pub fn data_space() -> [u8; 32769] {
     [0; 32769]
 }
 
-// Where notes go: to standard error where the disk itself goes to standard output.
-fn notes_to(to: &[u8]) -> i32 {
-    if is_dash(to) {
-        return STDERR_FILENO;
-    }
-    STDOUT_FILENO
+// Where the changed disk goes: `over` the file from which it came, or to another, over one that is there where `force` is said.
+#[derive(Clone, Copy)]
+pub struct Target<'a> {
+    pub path: &'a [u8],
+    pub over: bool,
+    pub force: bool,
 }
 
-// Writes the disk: over the file from which it came, or to another.
-fn write_disk(rt: &HostRuntime, disk: &[u8], to: &[u8], over: bool, force: bool) -> u8 {
-    if !over {
-        return write_file(rt, to, disk, force);
+impl<'a> Target<'a> {
+    // Where notes go: to standard error where the disk itself goes to standard output.
+    fn notes(self) -> i32 {
+        if is_dash(self.path) {
+            return STDERR_FILENO;
+        }
+        STDOUT_FILENO
     }
-    let status = replace_file(rt, to, disk);
-    if status == GOOD {
+
+    fn write(self, rt: &HostRuntime, disk: &[u8]) -> Result<(), Failure> {
+        if !self.over {
+            return write_file(rt, self.path, disk, self.force);
+        }
+        replace_file(rt, self.path, disk)?;
         text(STDOUT_FILENO, b"replaced ");
-        names::path(STDOUT_FILENO, to);
+        names::path(STDOUT_FILENO, self.path);
         text_number(STDOUT_FILENO, b", ", disk.len() as u64);
-        return finish(rt, b" bytes\n");
+        finish(rt, b" bytes\n")
     }
-    status
-}
-
-// A byte of 80h or more stands in the name.
-fn has_high(name: &[u8]) -> bool {
-    let mut high = false;
-    for k in 0..31usize {
-        high = high | (128 <= byte_at(name, k));
-    }
-    high
-}
-
-// A byte 0 stands in the name.
-fn has_zero(name: &[u8]) -> bool {
-    let mut zero = false;
-    for k in 0..31usize {
-        zero = zero | ((k < name.len()) & (byte_at(name, k) == 0));
-    }
-    zero
 }
 
 // Why a name cannot be written.
 fn tell_name(name: &[u8]) {
-    if name.len() == 0 {
+    if name.is_empty() {
         tell(b"it is empty");
-        return;
-    }
-    if 30 < name.len() {
+    } else if 30 < name.len() {
         tell(b"it has more than 30 bytes");
-        return;
-    }
-    if has_high(name) {
+    } else if name.iter().any(|b| 0x80 <= *b) {
         tell(b"it has a byte of 80h or more");
-        return;
-    }
-    if has_zero(name) {
+    } else if name.contains(&0) {
         tell(b"it has a byte 0");
-        return;
+    } else {
+        tell(b"it ends in a space");
     }
-    tell(b"it ends in a space");
 }
 
 // A sector that a save may take: the map calls it free, and its track is not 0, 17 or that of the catalog's first page.
-fn is_spare(disk: &[u8], k: u16) -> bool {
-    let track = (k / 16 % 35) as u8;
+fn is_spare(disk: &[u8], track: u8, sector: u8) -> bool {
     let p = Place {
         track: Track(track),
-        sector: Sector((k % 16) as u8),
+        sector: Sector(sector),
     };
-    let barred = (track == 0) | ((track == 17) | (track == byte_at(disk, 69633)));
+    let barred = (track == 0) | (track == 17) | (track == byte_at(disk, 69633));
     holders::is_free(disk, 16, p) & !barred
 }
 
 // How many sectors a save may take.
 pub fn spare_sectors(disk: &[u8]) -> u64 {
     let mut n: u64 = 0;
-    for k in 0..560u16 {
-        n = more(n, is_spare(disk, k));
+    for track in 0..35u8 {
+        let spare = (0..16u8).filter(|sector| is_spare(disk, track, *sector));
+        n = n.saturating_add(spare.count() as u64);
     }
     n
-}
-
-// What is left of n, some being taken.
-pub fn left_of(n: u64, taken: u64) -> u64 {
-    if n < taken {
-        return 0;
-    }
-    n - taken
 }
 
 // How many lines of the catalog are unused or deleted.
 pub fn open_lines(disk: &[u8]) -> u64 {
     let mut out = catalog_space();
-    let c = catalog::parse_catalogs(disk, &mut out);
-    left_of(7 * (c.pages as u64 % 1000), (c.handed.length / 37) as u64)
+    match catalog::parse_catalogs(disk, &mut out) {
+        Ok(c) => (7 * u64::from(c.pages)).saturating_sub((c.length / 37) as u64),
+        Err(_) => 0,
+    }
 }
 
 // What a file of so many bytes takes: data sectors and lists, with text between them.
@@ -140,7 +108,7 @@ pub fn sectors_taken(fd: i32, size: usize, between: &[u8]) {
 
 // How many sectors a file of so many bytes takes.
 pub fn sectors_for(size: usize) -> u64 {
-    let m = data_for(size % 65536);
+    let m = data_for(size);
     (m + lists_for(m)) as u64
 }
 
@@ -157,7 +125,7 @@ pub fn say_zeros(fd: i32, size: usize, left: u64, before: &[u8]) {
 
 // Which of the three is missing: bytes, lines, sectors.
 fn tell_space(disk: &[u8], size: usize) {
-    if 32768 < size {
+    if LONGEST < size {
         tell(b"the file has more than 32768 bytes");
         return;
     }
@@ -174,70 +142,85 @@ fn tell_space(disk: &[u8], size: usize) {
 }
 
 // What a file takes that is over the limit of the caller's side; of a longer one 32,769 bytes are read.
-fn tell_over(disk: &[u8], caller: Caller, size: usize) {
-    tell_limit(disk, caller);
+fn tell_over(disk: &[u8], caller: Option<Caller>, size: usize) {
+    if let Some(caller) = caller {
+        tell_limit(disk, caller);
+    }
     tell(b"the file takes ");
     sectors_taken(STDERR_FILENO, size, b" and ");
-    if 32768 < size {
+    if LONGEST < size {
         tell(b", or more");
     }
 }
 
 // Says why a file is not saved or deleted.
-fn tell_why(disk: &[u8], caller: Caller, why: u8, name: &[u8], size: usize) {
+fn tell_why(disk: &[u8], caller: Option<Caller>, why: Refusal, name: &[u8], size: usize) {
     tell(b"\n  ");
     match why {
-        UNWRITABLE_NAME => tell_name(name),
-        OTHER_SIDE => tell_owner(name),
-        OVER_LIMIT => tell_over(disk, caller, size),
-        NAME_TAKEN => {
+        Refusal::UnwritableName => tell_name(name),
+        Refusal::OtherSide => tell_owner(name),
+        Refusal::OverLimit => tell_over(disk, caller, size),
+        Refusal::NameTaken => {
             tell(b"a file is named ");
             names::name(STDERR_FILENO, name);
             tell(b"; linefiles delete deletes it");
-        }
-        NO_SPACE => tell_space(disk, size),
+        },
+        Refusal::NoSpace => tell_space(disk, size),
         _ => {
             tell(b"no file is named ");
             names::name(STDERR_FILENO, name);
-        }
+        },
     }
     tell(b"\n");
 }
 
-// Whether a disk has 13 sectors a track, which is refused as 1. Then this is said.
-pub fn is_older(disk: &[u8]) -> bool {
+// Refuses a disk of 13 sectors a track, as off size.
+pub fn check_edition(disk: &[u8]) -> Result<(), Failure> {
     if disk.len() == 143360 {
-        return false;
+        return Ok(());
     }
-    refusal(STDERR_FILENO, OFF_SIZE);
+    refusal(STDERR_FILENO, Refusal::OffSize);
     tell(b"\n  disks of 13 sectors a track are read, not changed\n");
-    true
+    Err(Failure::Refused)
 }
 
-// Says why a disk is one that is not changed: 1 to 6, 20.
-pub fn refuse_disk(disk: &[u8], why: u8) -> u8 {
-    if why < 7 {
+// The refusal is one of the contents of a disk.
+fn is_of_contents(why: Refusal) -> bool {
+    matches!(
+        why,
+        Refusal::OffSize
+            | Refusal::NoTable
+            | Refusal::OffDisc
+            | Refusal::Ring
+            | Refusal::CutLink
+            | Refusal::BadLetter
+    )
+}
+
+// Says why a disk is one that is not changed: its contents, or that it is not clean.
+pub fn refuse_disk(disk: &[u8], why: Refusal) -> Failure {
+    if is_of_contents(why) {
         return file_walk::refuse(disk, why);
     }
     refusal(STDERR_FILENO, why);
     tell(b"\n  linefiles crossed shows which sectors are shared, or held but free\n");
-    REFUSED
+    Failure::Refused
 }
 
-fn refuse(disk: &[u8], caller: Caller, why: u8, name: &[u8], size: usize) -> u8 {
-    if (why < 7) | (why == NOT_CLEAN) {
+fn refuse(disk: &[u8], caller: Option<Caller>, why: Refusal, name: &[u8], size: usize) -> Failure {
+    if is_of_contents(why) | (why == Refusal::NotClean) {
         return refuse_disk(disk, why);
     }
     refusal(STDERR_FILENO, why);
     tell_why(disk, caller, why, name, size);
-    REFUSED
+    Failure::Refused
 }
 
 // What was saved.
 fn tell_saved(fd: i32, name: &[u8], at: u16, size: usize) {
     text(fd, b"saved ");
     names::name(fd, name);
-    text_number(fd, b" at address ", at as u64);
+    text_number(fd, b" at address ", u64::from(at));
     text(fd, b": ");
     count(fd, size as u64, b"byte", b"bytes");
     text(fd, b", ");
@@ -245,92 +228,90 @@ fn tell_saved(fd: i32, name: &[u8], at: u16, size: usize) {
     text(fd, b"\n");
 }
 
-// A copy of the disk with a file saved to it, for a side where one calls: the number.
-fn save_to(image: &mut [u8], disk: &[u8], caller: Caller, name: &[u8], at: u16, data: &[u8]) -> u8 {
+// A copy of the disk with a file saved to it, for a side where one calls.
+fn save_to(
+    image: &mut [u8],
+    disk: &[u8],
+    caller: Option<Caller>,
+    name: &[u8],
+    at: u16,
+    data: &[u8],
+) -> Result<(), Refusal> {
     lists::copy_at(disk, image, 0);
-    if !caller.sided {
-        return saving::save(image, name, at, data);
+    match caller {
+        Some(caller) => {
+            let limit = caller.limit.unwrap_or(0);
+            saving::save_for(image, caller.side, limit, name, at, data)
+        },
+        None => saving::save(image, name, at, data),
     }
-    let side = caller.side;
-    saving::save_for(image, side, caller.limit, name, at, data)
 }
 
-// A copy of the disk with a file deleted from it, for a side where one calls: the number.
-fn delete_from(image: &mut [u8], disk: &[u8], caller: Caller, name: &[u8]) -> u8 {
+// A copy of the disk with a file deleted from it, for a side where one calls.
+fn delete_from(
+    image: &mut [u8],
+    disk: &[u8],
+    caller: Option<Caller>,
+    name: &[u8],
+) -> Result<(), Refusal> {
     lists::copy_at(disk, image, 0);
-    if !caller.sided {
-        return saving::delete(image, name);
+    match caller {
+        Some(caller) => {
+            let limit = caller.limit.unwrap_or(0);
+            saving::delete_for(image, caller.side, limit, name)
+        },
+        None => saving::delete(image, name),
     }
-    let side = caller.side;
-    saving::delete_for(image, side, caller.limit, name)
 }
 
-// Saves the bytes to the disk, and writes it.
+// Saves the bytes to the disk, under the name that is shown so, and writes it.
 fn save_bytes(
     rt: &HostRuntime,
     disk: &[u8],
-    caller: Caller,
+    caller: Option<Caller>,
     shown: &[u8],
     at: u16,
     data: &[u8],
-    to: &[u8],
-    over: bool,
-    force: bool,
-) -> u8 {
-    let mut wanted = [0u8; 31];
-    let k = unescape(shown, &mut wanted);
-    let name = lists::part(&wanted, 0, k);
+    target: Target,
+) -> Result<(), Failure> {
+    let name = unescape(rt.alloc(), shown)?;
+    let name = name.as_slice();
     let mut image = disk_space();
-    let why = save_to(&mut image, disk, caller, name, at, data);
-    if why != 0 {
-        return refuse(disk, caller, why, name, data.len());
-    }
-    let status = write_disk(rt, &image, to, over, force);
-    if status == GOOD {
-        tell_saved(notes_to(to), name, at, data.len());
-        say_held(notes_to(to), &image, caller);
-    }
-    status
+    let saved = save_to(&mut image, disk, caller, name, at, data);
+    saved.map_err(|why| refuse(disk, caller, why, name, data.len()))?;
+    target.write(rt, &image)?;
+    tell_saved(target.notes(), name, at, data.len());
+    say_held(target.notes(), &image, caller);
+    Ok(())
 }
 
-// Saves a file to a disk, for the side that the options from `first` on say; the disk goes to `to`, over the file there where that is said.
+// The address that a word says. Where it says none, this is told.
+fn said_address(word: &[u8]) -> Result<u16, Failure> {
+    if let Some(address) = address_of(word) {
+        return Ok(address);
+    }
+    tell(b"linefiles: ");
+    names::path(STDERR_FILENO, word);
+    tell(b" is no address; one is 0 to 65535, or $0 to $FFFF\n");
+    Err(Failure::Trouble)
+}
+
+// Saves a file to a disk, for the side that calls, under the name that is shown so and at the address that a word says.
 pub fn save(
     rt: &HostRuntime,
     disk: &[u8],
-    first: usize,
+    caller: Option<Caller>,
     shown: &[u8],
     at: &[u8],
     file: &[u8],
-    to: &[u8],
-    over: bool,
-    force: bool,
-) -> u8 {
-    if is_older(disk) {
-        return REFUSED;
-    }
-    let a = address_of(at);
-    if !a.good {
-        tell(b"linefiles: ");
-        names::path(STDERR_FILENO, at);
-        tell(b" is no address; one is 0 to 65535, or $0 to $FFFF\n");
-        return TROUBLE;
-    }
+    target: Target,
+) -> Result<(), Failure> {
+    check_edition(disk)?;
+    let address = said_address(at)?;
     let mut data = data_space();
-    let l = read_front(rt, file, &mut data);
-    if !l.good {
-        return TROUBLE;
-    }
-    save_bytes(
-        rt,
-        disk,
-        caller_said(rt, first),
-        shown,
-        a.value,
-        lists::part(&data, 0, l.length),
-        to,
-        over,
-        force,
-    )
+    let length = read_front(rt, file, &mut data)?;
+    let data = lists::part(&data, 0, length);
+    save_bytes(rt, disk, caller, shown, address, data, target)
 }
 
 // What was deleted.
@@ -340,64 +321,50 @@ fn tell_deleted(fd: i32, name: &[u8]) {
     text(fd, b"\n");
 }
 
-// Deletes a file from a disk, for the side that the options from `first` on say; the disk goes to `to`, over the file there where that is said.
+// Deletes a file from a disk, for the side that calls.
 pub fn delete(
     rt: &HostRuntime,
     disk: &[u8],
-    first: usize,
+    caller: Option<Caller>,
     shown: &[u8],
-    to: &[u8],
-    over: bool,
-    force: bool,
-) -> u8 {
-    if is_older(disk) {
-        return REFUSED;
-    }
-    let caller = caller_said(rt, first);
-    let mut wanted = [0u8; 31];
-    let k = unescape(shown, &mut wanted);
-    let name = lists::part(&wanted, 0, k);
+    target: Target,
+) -> Result<(), Failure> {
+    check_edition(disk)?;
+    let name = unescape(rt.alloc(), shown)?;
+    let name = name.as_slice();
     let mut image = disk_space();
-    let why = delete_from(&mut image, disk, caller, name);
-    if why != 0 {
-        return refuse(disk, caller, why, name, 0);
-    }
-    let status = write_disk(rt, &image, to, over, force);
-    if status == GOOD {
-        tell_deleted(notes_to(to), name);
-        say_held(notes_to(to), &image, caller);
-    }
-    status
+    let deleted = delete_from(&mut image, disk, caller, name);
+    deleted.map_err(|why| refuse(disk, caller, why, name, 0))?;
+    target.write(rt, &image)?;
+    tell_deleted(target.notes(), name);
+    say_held(target.notes(), &image, caller);
+    Ok(())
 }
 
 // The name of an image in ProDOS order.
 fn ends_in_po(path: &[u8]) -> bool {
-    if path.len() < 3 {
-        return false;
-    }
-    let end = lists::part(path, path.len() - 3, 3);
-    lists::same(end, b".po") | lists::same(end, b".PO")
+    path.ends_with(b".po") | path.ends_with(b".PO")
 }
 
-// Whether an image is in ProDOS order by its name. Then this is said.
-pub fn in_prodos_order(from: &[u8]) -> bool {
+// Refuses an image that is in ProDOS order by its name.
+pub fn check_order(from: &[u8]) -> Result<(), Failure> {
     if !ends_in_po(from) {
-        return false;
+        return Ok(());
     }
     tell(b"linefiles: ");
     names::input(STDERR_FILENO, from);
     tell(
         b" is in ProDOS order by its name, and only a flat disk in\n  DOS order is changed; rearrange its sectors first, and name it .dsk or .do\n",
     );
-    true
+    Err(Failure::Trouble)
 }
 
 // Says that the bytes that were read are no flat disk, and what to do.
-pub fn not_flat(from: &[u8]) -> u8 {
+pub fn not_flat(from: &[u8]) -> Failure {
     tell(b"linefiles: ");
     names::input(STDERR_FILENO, from);
     tell(
         b" is no flat disk, and only a flat disk is changed;\n  linefiles denibblize makes one of a nibble stream, and nibblize a stream again\n",
     );
-    TROUBLE
+    Failure::Trouble
 }

@@ -5,134 +5,116 @@
 use disk::{Place, Sector, Track, sectors_of};
 use holders::{HolderCounts, is_free};
 use screen::names::name;
-use screen::{
-    GOOD, REFUSED, STDOUT_FILENO, count, finish, place_column, right, say, sector_number,
-    text_number,
-};
-use uses::{KEPT, LIST, PAGE, VTOC, held_at, holder_at, name_of, owner, role, uses_of};
-
-// Space for the catalog: 37 bytes an entry, 560 pages of 7.
-fn space() -> [u8; 145040] {
-    [0; 145040]
-}
+use screen::space::catalog_space;
+use screen::{Failure, STDOUT_FILENO, count, finish, place_column, right, say, text_number};
+use uses::{Holder, KEPT, SectorUse, Uses, name_of, uses_of};
 
 // A list or a data pair of a file.
 fn say_file(what: &[u8], entries: &[u8], file: u32) {
-    text_number(STDOUT_FILENO, what, file as u64);
+    text_number(STDOUT_FILENO, what, u64::from(file));
     say(b" ");
     name(STDOUT_FILENO, name_of(entries, file));
 }
 
-// What a holder is, by its number of `uses`.
-fn say_holder(entries: &[u8], holder: u32) {
-    match role(holder) {
-        VTOC => say(b"VTOC"),
-        PAGE => say(b"catalog page"),
-        LIST => say_file(b"list of file ", entries, owner(holder)),
-        _ => say_file(b"data of file ", entries, owner(holder)),
+fn say_holder(entries: &[u8], holder: Holder) {
+    match holder {
+        Holder::Vtoc => say(b"VTOC"),
+        Holder::Page => say(b"catalog page"),
+        Holder::List(file) => say_file(b"list of file ", entries, file),
+        Holder::Data(file) => say_file(b"data of file ", entries, file),
     }
 }
 
-// The further holders of a sector, each on a row of its own.
-fn further(uses: &[u32], entries: &[u8], k: usize, held: u32) {
-    for i in 1..KEPT {
-        if held <= i {
-            return;
+// The holders of a sector, each behind the first on a row of its own; and how many there are that are not kept.
+fn say_holders(entries: &[u8], sector: SectorUse) {
+    for (i, holder) in sector.kept.into_iter().enumerate() {
+        if let Some(holder) = holder {
+            if 0 < i {
+                say(b"\n                   ");
+            }
+            say_holder(entries, holder);
         }
-        say(b"\n                   ");
-        say_holder(entries, holder_at(uses, k, i));
     }
-}
-
-// How many there are that are not kept.
-fn say_rest(held: u32) {
-    if KEPT < held {
+    if KEPT < sector.held {
         text_number(
             STDOUT_FILENO,
             b"\n                   and ",
-            (held - KEPT) as u64,
+            u64::from(sector.held - KEPT),
         );
         say(b" more");
     }
 }
 
 // A sector: its place, how many hold it, and its holders.
-fn show_sector(uses: &[u32], entries: &[u8], p: Place, k: usize) {
-    let held = held_at(uses, k);
+fn show_sector(entries: &[u8], p: Place, sector: SectorUse) {
     say(b"  ");
     place_column(STDOUT_FILENO, p);
-    right(STDOUT_FILENO, held as u64, 6);
+    right(STDOUT_FILENO, u64::from(sector.held), 6);
     say(b"  ");
-    say_holder(entries, holder_at(uses, k, 0));
-    further(uses, entries, k, held);
-    say_rest(held);
+    say_holders(entries, sector);
     say(b"\n");
 }
 
-// The sector has more than one holder; or, with `loose`, it is held and the map calls it free.
-fn is_crossed(disk: &[u8], per: u8, loose: bool, p: Place, held: u32) -> bool {
-    if loose {
-        return (0 < held) & is_free(disk, per, p);
-    }
-    1 < held
+// What is looked for: sectors with more than one holder, or held ones that the map calls free.
+#[derive(Clone, Copy, Debug, PartialEq, Eq)]
+enum Crossing {
+    Shared,
+    Loose,
 }
 
-fn show_track(disk: &[u8], per: u8, uses: &[u32], entries: &[u8], loose: bool, track: u8) {
-    for sector in 0..per {
-        let p = Place {
-            track: Track(track),
-            sector: Sector(sector),
-        };
-        let k = sector_number(per, p);
-        if is_crossed(disk, per, loose, p, held_at(uses, k)) {
-            show_sector(uses, entries, p, k);
+// The sectors of one kind, in order of track and sector.
+fn show_sectors(disk: &[u8], uses: &Uses, entries: &[u8], kind: Crossing) {
+    say(b"  sector  holders  held by\n");
+    let per = sectors_of(disk);
+    for track in 0..35u8 {
+        for sector in 0..per {
+            let p = Place {
+                track: Track(track),
+                sector: Sector(sector),
+            };
+            let found = uses.at(p);
+            let crossed = match kind {
+                Crossing::Shared => found.is_shared(),
+                Crossing::Loose => (0 < found.held) & is_free(disk, per, p),
+            };
+            if crossed {
+                show_sector(entries, p, found);
+            }
         }
     }
 }
 
-// The sectors of one kind, in order of track and sector.
-fn show_sectors(disk: &[u8], per: u8, uses: &[u32], entries: &[u8], loose: bool) {
-    say(b"  sector  holders  held by\n");
-    for track in 0..35u8 {
-        show_track(disk, per, uses, entries, loose, track);
-    }
-}
-
-fn show_kinds(disk: &[u8], h: HolderCounts, uses: &[u32], entries: &[u8]) {
-    let per = sectors_of(disk);
+fn show_kinds(disk: &[u8], h: HolderCounts, uses: &Uses, entries: &[u8]) {
     if 0 < h.shared {
         say(b"\nSectors with more than one holder\n");
-        show_sectors(disk, per, uses, entries, false);
+        show_sectors(disk, uses, entries, Crossing::Shared);
     }
     if 0 < h.held_free {
         say(b"\nHeld sectors that the map calls free\n");
-        show_sectors(disk, per, uses, entries, true);
+        show_sectors(disk, uses, entries, Crossing::Loose);
     }
 }
 
-fn last_line(rt: &HostRuntime, h: HolderCounts) -> u8 {
+fn last_line(rt: &HostRuntime, h: HolderCounts) -> Result<(), Failure> {
     say(b"\n");
     count(
         STDOUT_FILENO,
-        h.shared as u64,
+        u64::from(h.shared),
         b"sector shared, ",
         b"sectors shared, ",
     );
     count(
         STDOUT_FILENO,
-        h.held_free as u64,
+        u64::from(h.held_free),
         b"held sector",
         b"held sectors",
     );
-    let status = finish(rt, b" free in the map: not clean\n");
-    if status == GOOD {
-        return REFUSED;
-    }
-    status
+    finish(rt, b" free in the map: not clean\n")?;
+    Err(Failure::Refused)
 }
 
-// Lists these sectors of a disk that is not refused, whose counts are h: 0 where it is clean, 1 where it is not.
-pub fn list(rt: &HostRuntime, disk: &[u8], h: HolderCounts) -> u8 {
+// Lists these sectors of a disk that is not refused, whose counts are h: one that is not clean is refused.
+pub fn list(rt: &HostRuntime, disk: &[u8], h: HolderCounts) -> Result<(), Failure> {
     if h.clean {
         return finish(
             rt,
@@ -140,8 +122,8 @@ pub fn list(rt: &HostRuntime, disk: &[u8], h: HolderCounts) -> u8 {
         );
     }
     let uses = uses_of(disk);
-    let mut entries = space();
-    catalog::parse_catalogs(disk, &mut entries);
+    let mut entries = catalog_space();
+    let _ = catalog::parse_catalogs(disk, &mut entries);
     show_kinds(disk, h, &uses, &entries);
     last_line(rt, h)
 }

@@ -16,12 +16,13 @@ use mir.Facts.{to_z_pos, to_z-neg, to_z-of_z}
 use borrow.Author.Tests.{lt-ltb, le-ltb, eq-eqb, ne_eqb}
 use borrow.Author.Rules.{rules}
 use Rattle.disk.specs.declared.Place.{Place}
-use Rattle.disk.specs.Vtoc.{readable, tabled, percent, free_below, one_of, valid_table, spare, vtoc, signed, free_in, blank, table_of, parsed}
+use Rattle.disk.specs.Vtoc.{readable, tabled, percent, free_below, one_of, valid_table, spare, vtoc, signed, free_in, table_of, parsed}
 use Rattle.disk.specs.Disk.{per_of, place, start, byte_of, link_of}
 use Rattle.disk.specs.declared.VolumeTableOfContents.{VolumeTableOfContents}
-use Rattle.outcome.specs.Refusal.{code}
-use Rattle.outcome.specs.Outcome.{Outcome, refused, given, number}
-use Rattle.outcome.proofs.Outcome.{number_0}
+use Rattle.std.specs.Prelude.{Ok, Err}
+use Rattle.outcome.specs.declared.Refusal.{Refusal}
+use Rattle.outcome.specs.declared.Refusal.TheVariants.{OffSize, NoTable}
+use Rattle.outcome.specs.Outcome.{Outcome}
 use Rattle.disk.proofs.Places.{off_size, no_table, is_readable, readable_some}
 
 -- a product of two bytes
@@ -70,8 +71,6 @@ spare_13 n h = rw (eq-eqb n 13 h) refl
 pub spare_16 : (n : ℕ) → (n ≡ 13 → ⊥) → 1 ≡ spare n
 unfolding spare
 spare_16 n h = rw (ne_eqb n 13 h) refl
-
-pub ruleset pers = (per_13, per_16, spare_13, spare_16, rules)
 
 -- a count of free sectors, k tracks on
 pub record Counting (n : ℕ) (d : List ℕ) (sum k : ℕ) : Type 0 where
@@ -123,37 +122,33 @@ pub ruleset checks = (first_of, second_of, tracks_good, tracks_bad, rules)
 
 -- ---- the table
 module _ (n : ℕ) (d : List ℕ) where
-  pub size_wrong : (length d ≡ 256 * (35 * n) → ⊥) → 1 ≡ number (readable n d)
-  size_wrong h = rw (off_size n d h) refl
+  pub size_wrong : (length d ≡ 256 * (35 * n) → ⊥) → Err OffSize ≡ readable n d
+  size_wrong h = sym (off_size n d h)
 
   module _ (h : length d ≡ 256 * (35 * n)) (a b : ℕ) (l : a ≡ byte_of n d vtoc 52) (m : b ≡ byte_of n d vtoc 53) (q : Bool) (e : q ≡ valid_table n a b) where
     is_tabled : tabled n d ≡ q
     unfolding tabled
     is_tabled = rw (← l, ← m) (sym e)
 
-    pub table_good : q ≡ true → 0 ≡ number (readable n d)
-    table_good z = rw (is_readable n d h (is_tabled ∙ z)) refl
+    pub table_good : q ≡ true → Ok tt ≡ readable n d
+    table_good z = sym (is_readable n d h (is_tabled ∙ z))
 
-    pub table_bad : q ≡ false → 2 ≡ number (readable n d)
-    table_bad z = rw (no_table n d h (is_tabled ∙ z)) refl
+    pub table_bad : q ≡ false → Err NoTable ≡ readable n d
+    table_bad z = sym (no_table n d h (is_tabled ∙ z))
 
--- the answer by its number
-module _ (n : ℕ) (d : List ℕ) (v : VolumeTableOfContents) (k : ℕ) (e : k ≡ number (readable n d)) where
-  pub table_none : (k ≡ 0 → ⊥) → v ≡ blank k → v ≡ parsed n d
+-- what is made of a table that is read, and of one that is not
+module _ (n : ℕ) (d : List ℕ) where
+  pub table_none : (r : Refusal) → Err r ≡ readable n d → Err r ≡ parsed n d
   unfolding parsed
-  table_none h b = go (readable n d) e
-    where
-      go : (o : Outcome (Unit {0})) → k ≡ number o → v ≡ elim o [ refused r ↦ blank (code r) | given u ↦ table_of n d ]
-      go (refused r) q = b ∙ rw q refl
-      go (given u) q = absurd (h q)
+  table_none r e = rw (← e) refl
 
-  pub table_read : k ≡ 0 → v ≡ table_of n d → v ≡ parsed n d
+  pub table_read : (v : VolumeTableOfContents) → Ok tt ≡ readable n d → v ≡ table_of n d → Ok v ≡ parsed n d
   unfolding parsed
-  table_read z b = let o = number_0 (readable n d) (sym e ∙ z) in rw (parsed, o.1) b
+  table_read v e b = rw (← e, b) refl
 
--- a table is read only where a track has sectors
-pub table_some : (n : ℕ) (d : List ℕ) (k : ℕ) → k ≡ number (readable n d) → k ≡ 0 → 0 < n
-table_some n d k e z = readable_some n d (number_0 (readable n d) (sym e ∙ z)).1
+  -- a table is read only where a track has sectors
+  pub table_some : Ok tt ≡ readable n d → 0 < n
+  table_some e = readable_some n d (sym e)
 
 -- the fields, as they were read one by one
 pub table_is : (n : ℕ) (d : List ℕ) (a b r v m l x t s y w f u p : ℕ) (z : ℤ)
@@ -170,7 +165,6 @@ pub table_is : (n : ℕ) (d : List ℕ) (a b r v m l x t s y w f u p : ℕ) (z :
     → w ≡ byte_of n d vtoc 55
     → f ≡ free_below n d 35 → u ≡ 35 * n - f → p ≡ percent (35 * n) u → SFits w8 z → z ≡ signed x
     → record {
-      refusal = 0;
       track_number_of_first_catalog_sector = a;
       sector_number_of_first_catalog_sector = b;
       release_number_of_dos = r;
@@ -190,7 +184,7 @@ table_is n d a b r v m l x t s y w f u p z ha hb hr hv hm hl hx ht hs hy hw hf h
     rw (to_z-of_z fits, hz, hp, hu, hf, ha, hb, hr, hv, hm, hl, hx, ht, hs, hy, hw) refl
 
 -- by the disk's own size
-pub table_at : (d : List ℕ) (v : VolumeTableOfContents) (n : ℕ) → n ≡ per_of d → v ≡ parsed n d → v ≡ parsed (per_of d) d
+pub table_at : (d : List ℕ) (v : Outcome VolumeTableOfContents) (n : ℕ) → n ≡ per_of d → v ≡ parsed n d → v ≡ parsed (per_of d) d
 table_at d v n e q = rw e at q
 
 pub ruleset tables = (table_at, table_some, table_is, size_wrong, table_good, table_bad, table_none, table_read, rules)

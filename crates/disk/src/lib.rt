@@ -1,32 +1,30 @@
 // A flat Apple DOS disk: locations, the window, and the volume table of contents (disk.rs).
 #![tactic(auto)]
 
-ghost use Rattle.std.specs.Prelude.{◌≡◌, ℕ, ◌+◌, ◌*◌, ◌-◌, ◌<◌, ◌≤◌, cond, length};
+ghost use Rattle.std.specs.Prelude.{◌≡◌, ℕ, ◌+◌, ◌*◌, ◌<◌, ◌≤◌, length};
 ghost use Rattle.std.specs.Int.Count.{ones};
-ghost use Rattle.outcome.specs.Outcome.{number};
 ghost use Rattle.disk.specs.Disk.{per_of, place, sectors, start, byte_of, link_of, on_disk};
-ghost use Rattle.disk.specs.Vtoc.{vtoc, readable, free_in, free_below, percent, one_of, valid_table, spare, map_word, signed, blank, table_of, parsed};
-ghost use Rattle.disk.specs.Window.{sector_in, windowed, part};
+ghost use Rattle.disk.specs.Vtoc.{vtoc, readable, free_in, free_below, percent, one_of, valid_table, spare, map_word, signed, table_of, parsed};
+ghost use Rattle.disk.specs.Window.{sector_in, windowed, seen};
 
-use outcome::{NO_TABLE, OFF_DISC, OFF_SIZE};
+use outcome::Refusal;
 
-#[derive(Clone, Copy)]
+#[derive(Clone, Copy, Debug, PartialEq, Eq)]
 pub struct Track(pub u8);
 
-#[derive(Clone, Copy)]
+#[derive(Clone, Copy, Debug, PartialEq, Eq)]
 pub struct Sector(pub u8);
 
 // A location. A track number is never taken for a sector number: the two meet in the location arithmetic alone.
-#[derive(Clone, Copy)]
+#[derive(Clone, Copy, Debug, PartialEq, Eq)]
 pub struct Place {
     pub track: Track,
     pub sector: Sector,
 }
 
-// The fields of the volume table of contents, with the numbers that are made of its map. `refusal` is 0, or why there is no table.
-#[derive(Clone, Copy)]
+// The fields of the volume table of contents, with the numbers that are made of its map.
+#[derive(Clone, Copy, Debug, PartialEq, Eq)]
 pub struct VolumeTableOfContents {
-    pub refusal: u8,
     pub track_number_of_first_catalog_sector: u8,
     pub sector_number_of_first_catalog_sector: u8,
     pub release_number_of_dos: u8,
@@ -85,26 +83,22 @@ fn vtoc_byte(disk: &[u8], per: u8, k: u16) -> u8
 }
 
 // The sectors of a track, by the disk's size: 13 for 116,480 bytes, else 16.
+#[tactic(auto, unfolding(crate::specs::Disk::per_of))]
 pub fn sectors_of(disk: &[u8]) -> u8
     ensures is { result ≡ per_of disk.now }
     ensures some { 0 < result }
     ensures small { result ≤ 16 }
 {
-    if disk.len() == 116480 {
-        return 13;
-    }
-    16
+    if disk.len() == 116480 { 13 } else { 16 }
 }
 
 // Two to the power of the map bits that are below sector 0's.
+#[tactic(auto, unfolding(crate::specs::Vtoc::spare))]
 fn spare_of(per: u8) -> u16
     ensures is { result ≡ spare per }
     ensures some { 0 < result }
 {
-    if per == 13 {
-        return 8;
-    }
-    1
+    if per == 13 { 8 } else { 1 }
 }
 
 // Map bytes 0 and 1 of a track, as one number.
@@ -143,31 +137,12 @@ fn free_sectors(disk: &[u8], per: u8) -> u32
     n
 }
 
-// x is one of two numbers.
-fn either(x: u8, a: u8, b: u8) -> bool
-    ensures { result ≡ one_of x a b }
-{
-    if x == a {
-        return true;
-    }
-    x == b
-}
-
 // The table names 35 or 40 tracks, and 13 sectors or as many as the disk has.
+#[tactic(auto, unfolding(crate::specs::Vtoc::valid_table, crate::specs::Vtoc::one_of))]
 fn valid_table(per: u8, tracks: u8, sectors: u8) -> bool
     ensures { result ≡ valid_table per tracks sectors }
 {
-    if either(tracks, 35, 40) {
-        return either(sectors, 13, per);
-    }
-    false
-}
-
-// What is used of a number of sectors.
-fn used_of(total: u32, free: u32) -> u32
-    ensures { result ≡ total - free }
-{
-    if total < free { 0 } else { total - free }
+    (tracks == 35 || tracks == 40) && (sectors == 13 || sectors == per)
 }
 
 // 100 times used / total, to the nearest number; exactly halfway, to the even one.
@@ -187,28 +162,6 @@ fn percent_of(total: u32, used: u32) -> u32
     below + below % 2
 }
 
-// A refusal: every other field is zero.
-fn refused_table(number: u8) -> VolumeTableOfContents
-    ensures { result ≡ blank number }
-{
-    VolumeTableOfContents {
-        refusal: number,
-        track_number_of_first_catalog_sector: 0,
-        sector_number_of_first_catalog_sector: 0,
-        release_number_of_dos: 0,
-        diskette_volume_number: 0,
-        maximum_number_of_track_sector_pairs: 0,
-        last_track_where_sectors_were_allocated: 0,
-        direction_of_track_allocation: 0,
-        number_of_tracks_per_diskette: 0,
-        number_of_sectors_per_track: 0,
-        number_of_bytes_per_sector: 0,
-        free: 0,
-        used: 0,
-        percent_used: 0,
-    }
-}
-
 // The fields as they stand on the disk.
 fn table(disk: &[u8], per: u8) -> VolumeTableOfContents
     requires { 0 < per }
@@ -216,7 +169,7 @@ fn table(disk: &[u8], per: u8) -> VolumeTableOfContents
 {
     let free = free_sectors(disk, per);
     let total = 35 * (per as u32);
-    let used = used_of(total, free);
+    let used = total.saturating_sub(free);
     let percent = percent_of(total, used);
     let track = vtoc_byte(disk, per, 1);
     let sector = vtoc_byte(disk, per, 2);
@@ -230,7 +183,6 @@ fn table(disk: &[u8], per: u8) -> VolumeTableOfContents
     let low = vtoc_byte(disk, per, 54) as u16;
     let high = vtoc_byte(disk, per, 55) as u16;
     VolumeTableOfContents {
-        refusal: 0,
         track_number_of_first_catalog_sector: track,
         sector_number_of_first_catalog_sector: sector,
         release_number_of_dos: release,
@@ -247,45 +199,42 @@ fn table(disk: &[u8], per: u8) -> VolumeTableOfContents
     }
 }
 
-// Why a flat disk cannot be read: 1 its size, 2 its table; 0 where it can.
-pub fn table_refusal(disk: &[u8], per: u8) -> u8
-    ensures { result ≡ number (readable per disk.now) }
+// A flat disk that can be read; refusals 1 for its size, 2 for its table.
+#[tactic(auto, unfolding(crate::specs::Vtoc::readable, crate::specs::Disk::sized, crate::specs::Vtoc::tabled))]
+pub fn readable(disk: &[u8], per: u8) -> Result<(), Refusal>
+    ensures { result ≡ readable per disk.now }
 {
     if disk.len() != 256 * (35 * (per as usize)) {
-        return OFF_SIZE;
+        return Err(Refusal::OffSize);
     }
-    if valid_table(per, vtoc_byte(disk, per, 52), vtoc_byte(disk, per, 53)) {
-        return 0;
+    if !valid_table(per, vtoc_byte(disk, per, 52), vtoc_byte(disk, per, 53)) {
+        return Err(Refusal::NoTable);
     }
-    NO_TABLE
+    Ok(())
 }
 
 // The volume table of contents of a disk of `per` sectors a track; refusals 1, 2.
-pub fn table_of(disk: &[u8], per: u8) -> VolumeTableOfContents
+#[tactic(auto, using(crate::proofs::Numbers::table_some), unfolding(crate::specs::Vtoc::parsed))]
+pub fn table_of(disk: &[u8], per: u8) -> Result<VolumeTableOfContents, Refusal>
     ensures { result ≡ parsed per disk.now }
 {
-    let number = table_refusal(disk, per);
-    if number != 0 {
-        return refused_table(number);
-    }
-    table(disk, per)
+    readable(disk, per)?;
+    Ok(table(disk, per))
 }
 
 // The volume table of contents of a flat disk; refusals 1, 2.
-pub fn parse_volume_table_of_contents(disk: &[u8]) -> VolumeTableOfContents
+pub fn parse_volume_table_of_contents(disk: &[u8]) -> Result<VolumeTableOfContents, Refusal>
     ensures { result ≡ parsed (per_of disk.now) disk.now }
 {
     table_of(disk, sectors_of(disk))
 }
 
 // A place that the disk has.
+#[tactic(auto, unfolding(crate::specs::Disk::on_disk))]
 pub fn on_disk(per: u8, p: Place) -> bool
     ensures { result ≡ on_disk per p }
 {
-    if p.track.0 < 35 {
-        return p.sector.0 < per;
-    }
-    false
+    p.track.0 < 35 && p.sector.0 < per
 }
 
 // The turns that a walk along a chain of sectors has, no sector being marked: one more than there are sectors. They run out in a ring alone.
@@ -295,63 +244,31 @@ pub fn chain_budget(per: u8) -> u16
     35 * (per as u16) + 1
 }
 
-// One of two slices.
-fn chosen<'a>(disk: &'a [u8], image: &'a [u8], flat: bool) -> &'a [u8]
-    ensures { result.now ≡ cond flat disk.now image.now }
+// A sector of a disk of `per` sectors a track, as a part of it; refusals 1 for the size, 3 for the place.
+#[tactic(auto, unfolding(crate::specs::Window::sector_in, crate::specs::Disk::sized, crate::specs::Disk::bytes_of))]
+fn sector_in(disk: &[u8], per: u8, p: Place) -> Result<&[u8], Refusal>
+    ensures { seen result ≡ sector_in per disk.now p }
 {
-    if flat { disk } else { image }
+    if disk.len() != 256 * (35 * (per as usize)) {
+        return Err(Refusal::OffSize);
+    }
+    if !on_disk(per, p) {
+        return Err(Refusal::OffDisc);
+    }
+    let start = sector_start(per, p);
+    Ok(&disk[start..start + 256])
 }
 
-// Why a sector is not to be had: 1 the size, 3 the place; 0 where it is.
-fn sector_refusal(d: &[u8], per: u8, p: Place) -> u8
-    ensures { result ≡ number (sector_in per d.now p) }
-{
-    if d.len() != 256 * (35 * (per as usize)) {
-        return OFF_SIZE;
-    }
-    if on_disk(per, p) {
-        return 0;
-    }
-    OFF_DISC
-}
-
-// A sector as a part of the disk if flat, else of the unrolled image; an empty part on refusal, whose number `window_refusal` gives.
+// A sector as a part of the disk if flat, else of the unrolled image; refusals 1, 3.
 pub fn window<'a>(
     disk: &'a [u8],
     image: &'a [u8],
     flat: bool,
     track: Track,
     sector: Sector,
-) -> &'a [u8]
-    ensures { result.now ≡ part (windowed disk.now image.now flat (place track.0 sector.0)) }
+) -> Result<&'a [u8], Refusal>
+    ensures { seen result ≡ windowed disk.now image.now flat (place track.0 sector.0) }
 {
-    let d = chosen(disk, image, flat);
-    let p = Place {
-        track: track,
-        sector: sector,
-    };
-    let per = sectors_of(d);
-    if sector_refusal(d, per, p) != 0 {
-        return &d[0..0];
-    }
-    let start = sector_start(per, p);
-    &d[start..start + 256]
-}
-
-// Why the window is empty: 1 the size, 3 the place; 0 where it is not.
-pub fn window_refusal<'a>(
-    disk: &'a [u8],
-    image: &'a [u8],
-    flat: bool,
-    track: Track,
-    sector: Sector,
-) -> u8
-    ensures { result ≡ number (windowed disk.now image.now flat (place track.0 sector.0)) }
-{
-    let p = Place {
-        track: track,
-        sector: sector,
-    };
-    let d = chosen(disk, image, flat);
-    sector_refusal(d, sectors_of(d), p)
+    let d = if flat { disk } else { image };
+    sector_in(d, sectors_of(d), Place { track, sector })
 }

@@ -2,26 +2,30 @@
 #![tactic(auto)]
 
 use file_walk::{Purpose, follow_files, refuse};
+use files::DiskSurvey;
 use holders::HolderCounts;
-use outcome::NO_TABLE;
-use page_walk::follow_pages;
+use outcome::Refusal;
+use page_walk::{Aim, follow_pages};
+use screen::space::archive_space;
 use screen::{
-    GOOD, STDOUT_FILENO, count, finish, heads, json, right, say, text_number, text_place,
+    Failure, STDOUT_FILENO, count, finish, heads, json, right, say, text_number, text_place,
 };
 use sides::{Side, count_held};
 
-// Space for the longest archive, 4,096 blocks.
-fn space() -> [u8; 1048576] {
-    [0; 1048576]
+// The volume of a disk that has a VTOC.
+fn volume_of(disk: &[u8]) -> u64 {
+    match disk::parse_volume_table_of_contents(disk) {
+        Ok(v) => u64::from(v.diskette_volume_number),
+        Err(_) => 0,
+    }
 }
 
 // The links of the VTOC and the pages, then the files with their lists.
 fn list_links(disk: &[u8], to_do: Purpose, archive: &[u8]) {
-    let v = disk::parse_volume_table_of_contents(disk);
     text_number(
         STDOUT_FILENO,
         b"\nCatalog\n  VTOC 17/0     volume ",
-        v.diskette_volume_number as u64,
+        volume_of(disk),
     );
     text_place(
         STDOUT_FILENO,
@@ -29,26 +33,29 @@ fn list_links(disk: &[u8], to_do: Purpose, archive: &[u8]) {
         catalog::first_page(disk, disk::sectors_of(disk)),
     );
     say(b"\n");
-    if follow_pages(disk, 0, false) == 0 {
+    if follow_pages(disk, to_do.aim).is_ok() {
         say(b"\nFiles\n");
         heads(STDOUT_FILENO);
-        follow_files(disk, to_do, archive);
+        let _ = follow_files(disk, to_do, archive);
     }
 }
 
-fn list_end(rt: &HostRuntime, disk: &[u8], entries: u64, links: u64) -> u8 {
-    let pages = catalog::count_pages(disk).count as u64;
+fn list_end(rt: &HostRuntime, disk: &[u8], s: DiskSurvey) -> Result<(), Failure> {
+    let pages = match catalog::count_pages(disk) {
+        Ok(pages) => u64::from(pages.count),
+        Err(_) => 0,
+    };
     say(b"\n");
-    count(STDOUT_FILENO, entries, b"file", b"files");
+    count(STDOUT_FILENO, u64::from(s.entries), b"file", b"files");
     say(b", ");
-    count(STDOUT_FILENO, links, b"link", b"links");
+    count(STDOUT_FILENO, s.links, b"link", b"links");
     say(b" followed: ");
     count(STDOUT_FILENO, pages, b"catalog page", b"catalog pages");
-    if pages <= links {
+    if let Some(lists) = s.links.checked_sub(pages) {
         say(b" and ");
         count(
             STDOUT_FILENO,
-            links - pages,
+            lists,
             b"track/sector list",
             b"track/sector lists",
         );
@@ -57,87 +64,103 @@ fn list_end(rt: &HostRuntime, disk: &[u8], entries: u64, links: u64) -> u8 {
 }
 
 // Whether each file of a disk may be fetched, which follows all links for each entry.
-fn may_fetch(refused: u8, entries: u32, links: u64) -> bool {
-    (refused == 0) & (links <= 4000000 / (entries as u64 + 1))
+fn may_fetch(survey: Result<DiskSurvey, Refusal>) -> bool {
+    match survey {
+        Ok(s) => s.links <= 4000000 / (u64::from(s.entries) + 1),
+        Err(_) => false,
+    }
 }
 
 // The same links as JSON.
 fn object_links(disk: &[u8], to_do: Purpose, archive: &[u8]) {
-    let v = disk::parse_volume_table_of_contents(disk);
-    text_number(
-        STDOUT_FILENO,
-        b",\n  \"volume\": ",
-        v.diskette_volume_number as u64,
-    );
+    text_number(STDOUT_FILENO, b",\n  \"volume\": ", volume_of(disk));
     say(b",\n  \"pages\": [");
-    let refusal = follow_pages(disk, 0, true);
+    let followed = follow_pages(disk, to_do.aim);
     say(b"\n  ],\n  \"files\": [");
-    if refusal == 0 {
-        follow_files(disk, to_do, archive);
+    if followed.is_ok() {
+        let _ = follow_files(disk, to_do, archive);
     }
     say(b"\n  ]");
 }
 
-fn object_end(rt: &HostRuntime, s: files::DiskSurvey) -> u8 {
+fn object_end(rt: &HostRuntime, survey: Result<DiskSurvey, Refusal>) -> Result<(), Failure> {
     say(b",\n  \"links\": ");
-    json::known(s.refusal == 0, s.links);
+    json::known(survey.ok().map(|s| s.links));
     finish(rt, b"\n}\n")
 }
 
-fn show_links(disk: &[u8], to_do: Purpose, archive: &[u8]) {
-    if to_do.object {
-        object_links(disk, to_do, archive);
-        return;
-    }
-    list_links(disk, to_do, archive);
-}
-
-fn show_end(rt: &HostRuntime, disk: &[u8], object: bool, s: files::DiskSurvey) -> u8 {
-    if object {
-        return object_end(rt, s);
-    }
-    if s.refusal != 0 {
-        return GOOD;
-    }
-    list_end(rt, disk, s.entries as u64, s.links)
-}
-
 // A disk without a table, or one that a stream does not hold: nothing is listed.
-pub fn none_listed(refusal: u8) {
-    json::refusal(refusal);
+pub fn none_listed(why: Refusal) {
+    json::refusal(Some(why));
     say(b",\n  \"volume\": null,\n  \"pages\": [],\n  \"files\": [],\n  \"links\": null\n}\n");
 }
 
-fn refuse_table(disk: &[u8], object: bool) -> u8 {
+fn refuse_table(disk: &[u8], object: bool) -> Failure {
     if object {
-        none_listed(NO_TABLE);
+        none_listed(Refusal::NoTable);
     }
-    refuse(disk, NO_TABLE)
+    refuse(disk, Refusal::NoTable)
+}
+
+// The list, as an object of JSON or as lines.
+fn show_list(
+    rt: &HostRuntime,
+    disk: &[u8],
+    survey: Result<DiskSurvey, Refusal>,
+    to_do: Purpose,
+    archive: &[u8],
+) -> Result<(), Failure> {
+    if to_do.aim == Aim::Objects {
+        json::refusal(survey.err());
+        object_links(disk, to_do, archive);
+        return object_end(rt, survey);
+    }
+    list_links(disk, to_do, archive);
+    match survey {
+        Ok(s) => list_end(rt, disk, s),
+        Err(_) => Ok(()),
+    }
 }
 
 // Lists the files of a disk, or says why it is refused.
-pub fn list(rt: &HostRuntime, disk: &[u8], raw: bool, object: bool) -> u8 {
-    let s = files::survey(disk);
-    if s.refusal == NO_TABLE {
-        return refuse_table(disk, object);
+pub fn list(rt: &HostRuntime, disk: &[u8], raw: bool, object: bool) -> Result<(), Failure> {
+    let survey = files::survey(disk);
+    if survey.err() == Some(Refusal::NoTable) {
+        return Err(refuse_table(disk, object));
     }
-    if object {
-        json::refusal(s.refusal);
-    }
-    let mut out = space();
-    let h = writer::write_archive(disk, &mut out);
+    let mut out = archive_space();
+    let length = writer::write_archive(disk, &mut out).unwrap_or(0);
     let to_do = Purpose {
-        why: 0,
-        object: object,
-        raw: raw,
-        fetch: may_fetch(s.refusal, s.entries, s.links),
+        aim: if object { Aim::Objects } else { Aim::Lines },
+        raw,
+        fetch: may_fetch(survey),
     };
-    show_links(disk, to_do, lists::part(&out, 0, h.length));
-    let status = show_end(rt, disk, object, s);
-    if s.refusal != 0 {
-        return refuse(disk, s.refusal);
+    let shown = show_list(rt, disk, survey, to_do, lists::part(&out, 0, length));
+    match survey {
+        Ok(_) => shown,
+        Err(why) => Err(refuse(disk, why)),
     }
-    status
+}
+
+// What is known of a disk that is not refused: its survey, its holders, and how many sectors each side holds.
+#[derive(Clone, Copy)]
+struct Report {
+    disk: DiskSurvey,
+    holders: HolderCounts,
+    ours: u64,
+    survey_office: u64,
+}
+
+fn report_on(disk: &[u8]) -> Result<Report, Refusal> {
+    let survey = files::survey(disk)?;
+    let holders = holders::holders(disk)?;
+    let per = disk::sectors_of(disk);
+    Ok(Report {
+        disk: survey,
+        holders,
+        ours: count_held(disk, per, Side::Ours),
+        survey_office: count_held(disk, per, Side::Survey),
+    })
 }
 
 fn survey_line(what: &[u8], n: u64) {
@@ -145,147 +168,74 @@ fn survey_line(what: &[u8], n: u64) {
     right(STDOUT_FILENO, n, 9);
 }
 
-fn survey_lines(s: files::DiskSurvey) {
-    survey_line(b"\n  volume        ", s.volume as u64);
-    survey_line(b"\n  entries       ", s.entries as u64);
-    survey_line(b"\n  free sectors  ", s.free as u64);
-    survey_line(b"\n  used sectors  ", s.used as u64);
-    survey_line(b"\n  percent used  ", s.percent_used as u64);
-    survey_line(b"\n  archive blocks", s.archive_blocks);
-    survey_line(b"\n  links followed", s.links);
-}
-
-// How many sectors each side holds.
-#[derive(Clone, Copy)]
-struct Shares {
-    ours: u64,
-    survey: u64,
-}
-
-// Those of a disk; nothing is counted where it is refused.
-fn shares_of(disk: &[u8], refusal: u8) -> Shares {
-    if refusal != 0 {
-        return Shares { ours: 0, survey: 0 };
-    }
-    let per = disk::sectors_of(disk);
-    Shares {
-        ours: count_held(disk, per, Side::Ours),
-        survey: count_held(disk, per, Side::Survey),
-    }
-}
-
-fn share_lines(held: Shares) {
-    survey_line(b"\n  our sectors   ", held.ours);
-    survey_line(b"\n  survey office ", held.survey);
-}
-
-fn holder_lines(rt: &HostRuntime, h: HolderCounts) -> u8 {
-    survey_line(b"\n  unheld sectors", h.unheld as u64);
-    survey_line(b"\n  held once     ", h.held_once as u64);
-    survey_line(b"\n  shared sectors", h.shared as u64);
-    survey_line(b"\n  held but free ", h.held_free as u64);
-    if h.clean {
+fn survey_lines(rt: &HostRuntime, s: Report) -> Result<(), Failure> {
+    survey_line(b"\n  volume        ", u64::from(s.disk.volume));
+    survey_line(b"\n  entries       ", u64::from(s.disk.entries));
+    survey_line(b"\n  free sectors  ", u64::from(s.disk.free));
+    survey_line(b"\n  used sectors  ", u64::from(s.disk.used));
+    survey_line(b"\n  percent used  ", u64::from(s.disk.percent_used));
+    survey_line(b"\n  archive blocks", s.disk.archive_blocks);
+    survey_line(b"\n  links followed", s.disk.links);
+    survey_line(b"\n  our sectors   ", s.ours);
+    survey_line(b"\n  survey office ", s.survey_office);
+    survey_line(b"\n  unheld sectors", u64::from(s.holders.unheld));
+    survey_line(b"\n  held once     ", u64::from(s.holders.held_once));
+    survey_line(b"\n  shared sectors", u64::from(s.holders.shared));
+    survey_line(b"\n  held but free ", u64::from(s.holders.held_free));
+    if s.holders.clean {
         return finish(rt, b"\n  clean               yes\n");
     }
     finish(rt, b"\n  clean                no\n")
 }
 
 // A key of the survey, whose value is null where the disk is refused.
-fn survey_key(key: &[u8], known: bool, n: u64) {
+fn survey_key(key: &[u8], n: Option<u64>) {
     say(b",\n  \"");
     say(key);
     say(b"\": ");
-    json::known(known, n);
-}
-
-fn survey_keys(known: bool, s: files::DiskSurvey) {
-    survey_key(b"volume", known, s.volume as u64);
-    survey_key(b"entries", known, s.entries as u64);
-    survey_key(b"free", known, s.free as u64);
-    survey_key(b"used", known, s.used as u64);
-    survey_key(b"percent_used", known, s.percent_used as u64);
-    survey_key(b"archive_blocks", known, s.archive_blocks);
-    survey_key(b"links", known, s.links);
-}
-
-// Whether the disk is clean; null where that is not known.
-fn clean_value(known: bool, clean: bool) {
-    if known {
-        json::boolean(clean);
-        return;
-    }
-    json::known(false, 0);
-}
-
-fn share_keys(known: bool, held: Shares) {
-    survey_key(b"our_sectors", known, held.ours);
-    survey_key(b"survey_office_sectors", known, held.survey);
-}
-
-fn holder_keys(rt: &HostRuntime, known: bool, h: HolderCounts) -> u8 {
-    survey_key(b"unheld", known, h.unheld as u64);
-    survey_key(b"held_once", known, h.held_once as u64);
-    survey_key(b"shared", known, h.shared as u64);
-    survey_key(b"held_free", known, h.held_free as u64);
-    say(b",\n  \"clean\": ");
-    clean_value(known, h.clean);
-    finish(rt, b"\n}\n")
+    json::known(n);
 }
 
 // The object of a disk, or of none: its values are null where there is a refusal.
-fn survey_object(
-    rt: &HostRuntime,
-    refusal: u8,
-    s: files::DiskSurvey,
-    h: HolderCounts,
-    held: Shares,
-) -> u8 {
-    json::refusal(refusal);
-    survey_keys(refusal == 0, s);
-    share_keys(refusal == 0, held);
-    holder_keys(rt, refusal == 0, h)
+fn survey_object(rt: &HostRuntime, survey: Result<Report, Refusal>) -> Result<(), Failure> {
+    json::refusal(survey.err());
+    let s = survey.ok();
+    survey_key(b"volume", s.map(|s| u64::from(s.disk.volume)));
+    survey_key(b"entries", s.map(|s| u64::from(s.disk.entries)));
+    survey_key(b"free", s.map(|s| u64::from(s.disk.free)));
+    survey_key(b"used", s.map(|s| u64::from(s.disk.used)));
+    survey_key(b"percent_used", s.map(|s| u64::from(s.disk.percent_used)));
+    survey_key(b"archive_blocks", s.map(|s| s.disk.archive_blocks));
+    survey_key(b"links", s.map(|s| s.disk.links));
+    survey_key(b"our_sectors", s.map(|s| s.ours));
+    survey_key(b"survey_office_sectors", s.map(|s| s.survey_office));
+    survey_key(b"unheld", s.map(|s| u64::from(s.holders.unheld)));
+    survey_key(b"held_once", s.map(|s| u64::from(s.holders.held_once)));
+    survey_key(b"shared", s.map(|s| u64::from(s.holders.shared)));
+    survey_key(b"held_free", s.map(|s| u64::from(s.holders.held_free)));
+    say(b",\n  \"clean\": ");
+    match s {
+        Some(s) => json::boolean(s.holders.clean),
+        None => json::known(None),
+    }
+    finish(rt, b"\n}\n")
 }
 
 // A disk that a stream does not hold: nothing is surveyed.
-pub fn none_surveyed(rt: &HostRuntime, refusal: u8) {
-    survey_object(
-        rt,
-        refusal,
-        files::survey(b""),
-        holders::holders(b""),
-        shares_of(b"", refusal),
-    );
+pub fn none_surveyed(rt: &HostRuntime, why: Refusal) {
+    let _ = survey_object(rt, Err(why));
 }
 
-fn show_survey(
-    rt: &HostRuntime,
-    s: files::DiskSurvey,
-    h: HolderCounts,
-    held: Shares,
-    object: bool,
-) -> u8 {
-    if object {
-        return survey_object(rt, s.refusal, s, h, held);
+// Shows the survey of a disk, or says why it is refused.
+pub fn survey(rt: &HostRuntime, disk: &[u8], object: bool) -> Result<(), Failure> {
+    let survey = report_on(disk);
+    let shown = match survey {
+        _ if object => survey_object(rt, survey),
+        Ok(s) => survey_lines(rt, s),
+        Err(_) => Ok(()),
+    };
+    match survey {
+        Ok(_) => shown,
+        Err(why) => Err(refuse(disk, why)),
     }
-    if s.refusal != 0 {
-        return GOOD;
-    }
-    survey_lines(s);
-    share_lines(held);
-    holder_lines(rt, h)
-}
-
-pub fn survey(rt: &HostRuntime, disk: &[u8], object: bool) -> u8 {
-    let s = files::survey(disk);
-    let status = show_survey(
-        rt,
-        s,
-        holders::holders(disk),
-        shares_of(disk, s.refusal),
-        object,
-    );
-    if s.refusal != 0 {
-        return refuse(disk, s.refusal);
-    }
-    status
 }

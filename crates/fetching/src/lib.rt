@@ -5,122 +5,99 @@ mod file_name;
 
 use arguments::is_dash;
 use arguments::letters::unescape;
-use file_name::file_name;
-use file_walk::{refuse, refuse_overlong};
+use file_name::put_file_name;
+use file_walk::{refuse, refuse_archive};
 use lists::byte_at;
-use outcome::{NOT_ON_ROLL, OVERLONG};
-use screen::sums::{after, next};
+use outcome::Refusal;
+use screen::space::{archive_space, catalog_space, file_space};
 use screen::{
-    BINARY, GOOD, REFUSED, STDERR_FILENO, STDOUT_FILENO, TROUBLE, count, finish, kind_letters,
-    names, refusal, say, tell, text, text_number,
+    BINARY, Failure, STDERR_FILENO, STDOUT_FILENO, count, finish, kind_letters, names, refusal,
+    say, tell, text, text_number,
 };
+use std::alloc::AllocError;
 use storing::{ready_folder, write_file};
 
-// Space for the longest file.
-fn file_space() -> [u8; 66000] {
-    [0; 66000]
+// The most blocks of an archive.
+const MOST_BLOCKS: u16 = 4096;
+
+// What is written, and how: files of other types too, empty, where `empty` is said; over files that are there, where `force` is.
+#[derive(Clone, Copy)]
+pub struct Terms {
+    pub empty: bool,
+    pub force: bool,
 }
 
-// Space for the longest archive, 4,096 blocks.
-fn archive_space() -> [u8; 1048576] {
-    [0; 1048576]
-}
-
-// Space for the longest catalog, 3,920 entries of 37 bytes.
-fn catalog_space() -> [u8; 145040] {
-    [0; 145040]
-}
-
-fn refuse_name(shown: &[u8]) -> u8 {
-    refusal(STDERR_FILENO, NOT_ON_ROLL);
+fn refuse_name(shown: &[u8]) -> Failure {
+    refusal(STDERR_FILENO, Refusal::NotOnRoll);
     tell(b"\n  no file is named ");
     names::path(STDERR_FILENO, shown);
     tell(b"\n");
-    REFUSED
+    Failure::Refused
 }
 
 // An entry of the catalog, in 37 bytes, has the name.
 fn has_name(entry: &[u8], name: &[u8]) -> bool {
-    lists::same(lists::part(entry, 5, byte_at(entry, 4) as usize), name)
+    lists::part(entry, 5, byte_at(entry, 4) as usize) == name
 }
 
 // The type of the last entry with a name, in a catalog of 37 bytes an entry; that of a Binary where there is none.
 fn type_in(entries: &[u8], name: &[u8]) -> u8 {
-    let mut kind = BINARY;
-    for k in 0..3920usize {
-        let entry = lists::part(entries, 37 * k, 37);
-        if (entry.len() == 37) & has_name(entry, name) {
-            kind = byte_at(entry, 2);
-        }
+    match entries.chunks(37).rfind(|entry| has_name(entry, name)) {
+        Some(entry) => byte_at(entry, 2),
+        None => BINARY,
     }
-    kind
 }
 
 // The type of the last file with a name on a disk that is not refused.
 fn type_of(disk: &[u8], name: &[u8]) -> u8 {
     let mut out = catalog_space();
-    let h = catalog::parse_catalogs(disk, &mut out).handed;
-    type_in(lists::part(&out, 0, h.length), name)
+    match catalog::parse_catalogs(disk, &mut out) {
+        Ok(listing) => type_in(lists::part(&out, 0, listing.length), name),
+        Err(_) => BINARY,
+    }
 }
 
 // Says that the type of a file hands over no bytes.
 fn no_bytes(fd: i32, kind: u8) {
     text(fd, b" is of type ");
-    kind_letters(fd, kind);
+    text(fd, kind_letters(kind).as_bytes());
     text(fd, b", which hands over no bytes");
 }
 
-fn refuse_type(shown: &[u8], kind: u8) -> u8 {
+fn refuse_type(shown: &[u8], kind: u8) -> Failure {
     tell(b"linefiles: ");
     names::path(STDERR_FILENO, shown);
     no_bytes(STDERR_FILENO, kind);
     tell(b";\n  --empty writes an empty file\n");
-    TROUBLE
+    Failure::Trouble
 }
 
-// Writes what was fetched. Where that is nothing, the type of the file says whether an empty file is meant.
-fn write_fetched(
+fn not_fetched(disk: &[u8], shown: &[u8], why: Refusal) -> Failure {
+    match why {
+        Refusal::NotOnRoll => refuse_name(shown),
+        _ => refuse(disk, why),
+    }
+}
+
+// Writes the bytes of the file with the name that is shown so to `to`. Where these are none, the type of the file says whether an empty file is meant.
+pub fn get(
     rt: &HostRuntime,
     disk: &[u8],
     shown: &[u8],
-    name: &[u8],
-    bytes: &[u8],
     to: &[u8],
-    empty: bool,
-    force: bool,
-) -> u8 {
-    if (bytes.len() == 0) & !empty {
-        let kind = type_of(disk, name);
+    terms: Terms,
+) -> Result<(), Failure> {
+    let name = unescape(rt.alloc(), shown)?;
+    let mut out = file_space();
+    let fetched = files::fetch(disk, name.as_slice(), &mut out);
+    let length = fetched.map_err(|why| not_fetched(disk, shown, why))?;
+    if (length == 0) & !terms.empty {
+        let kind = type_of(disk, name.as_slice());
         if kind != BINARY {
-            return refuse_type(shown, kind);
+            return Err(refuse_type(shown, kind));
         }
     }
-    write_file(rt, to, bytes, force)
-}
-
-// Writes the bytes of the file with the name that is shown so to `to`; an empty file for one of another type only where `empty` is said.
-pub fn get(rt: &HostRuntime, disk: &[u8], shown: &[u8], to: &[u8], empty: bool, force: bool) -> u8 {
-    let mut wanted = [0u8; 31];
-    let k = unescape(shown, &mut wanted);
-    let name = lists::part(&wanted, 0, k);
-    let mut out = file_space();
-    let h = files::fetch(disk, name, &mut out);
-    if h.refusal == NOT_ON_ROLL {
-        return refuse_name(shown);
-    }
-    if h.refusal != 0 {
-        return refuse(disk, h.refusal);
-    }
-    write_fetched(
-        rt,
-        disk,
-        shown,
-        name,
-        lists::part(&out, 0, h.length),
-        to,
-        empty,
-        force,
-    )
+    write_file(rt, to, lists::part(&out, 0, length), terms.force)
 }
 
 // How many files were written, left out, and not written.
@@ -138,74 +115,111 @@ struct Alike {
     all: u64,
 }
 
-// An entry whose bytes are written.
-fn is_wanted(e: reader::Entry, empty: bool) -> bool {
-    (e.kind == BINARY) | empty
+// An archive that was opened, the block of its first entry, and where its files go.
+#[derive(Clone, Copy)]
+struct Source<'a> {
+    archive: &'a [u8],
+    first: u64,
+    folder: &'a [u8],
+    terms: Terms,
 }
 
-// One more of the name, if the entry at a block is.
-fn add_alike(
-    archive: &[u8],
-    here: u64,
-    block: u64,
-    e: reader::Entry,
-    empty: bool,
-    n: Alike,
-) -> Alike {
-    let same = lists::same(
-        reader::entry_name(archive, here),
-        reader::entry_name(archive, block),
-    );
-    if !(same & is_wanted(e, empty)) {
-        return n;
+impl<'a> Source<'a> {
+    // An entry whose bytes are written.
+    fn wants(self, e: reader::Entry) -> bool {
+        (e.kind == BINARY) | self.terms.empty
     }
-    Alike {
-        before: screen::sums::more(n.before, here < block),
-        all: next(n.all),
-    }
-}
 
-// Goes through the entries from the first on.
-fn count_alike(archive: &[u8], first: u16, block: u64, empty: bool) -> Alike {
-    let mut n = Alike { before: 0, all: 0 };
-    let mut here = first as u64;
-    for k in 0..4096u16 {
-        if here == 0 {
-            return n;
+    // The files of the name that the entry at a block has.
+    fn alike(self, block: u64) -> Alike {
+        let name = reader::entry_name(self.archive, block);
+        let mut n = Alike { before: 0, all: 0 };
+        let mut here = self.first;
+        for _ in 0..MOST_BLOCKS {
+            let Some(e) = reader::next_entry(self.archive, here) else {
+                break;
+            };
+            if (reader::entry_name(self.archive, here) == name) & self.wants(e) {
+                n.all = n.all.saturating_add(1);
+                if here < block {
+                    n.before = n.before.saturating_add(1);
+                }
+            }
+            here = u64::from(e.next);
         }
-        let e = reader::next_entry(archive, here);
-        n = add_alike(archive, here, block, e, empty, n);
-        here = e.next as u64;
+        n
     }
-    n
-}
 
-// Puts the data of an entry into `out`: their length.
-fn data_of(archive: &[u8], e: reader::Entry, out: &mut [u8]) -> usize {
-    let mut block = e.first as u64;
-    let mut n: usize = 0;
-    for k in 0..4096u16 {
-        if block == 0 {
-            return n;
+    // Puts the data of an entry into `out`: their length.
+    fn data_of(self, e: reader::Entry, out: &mut [u8]) -> usize {
+        let mut block = u64::from(e.first);
+        let mut n: usize = 0;
+        for _ in 0..MOST_BLOCKS {
+            let Some(left) = (e.size as usize).checked_sub(n) else {
+                break;
+            };
+            if block == 0 {
+                break;
+            }
+            let part = reader::data_part(self.archive, block, left as u64);
+            lists::copy_at(part, out, n);
+            n = n.saturating_add(part.len());
+            block = u64::from(reader::next_data(self.archive, block));
         }
-        let size = e.size as usize;
-        if size < n {
-            return n;
-        }
-        let part = reader::data_part(archive, block, (size - n) as u64);
-        lists::copy_at(part, out, n);
-        n = after(n, part.len());
-        block = reader::next_data(archive, block) as u64;
+        n
     }
-    n
-}
 
-// The path of a file in a folder: its length.
-fn path_in(folder: &[u8], name: &[u8], n: Alike, out: &mut [u8]) -> usize {
-    lists::copy_at(folder, out, 0);
-    let k = folder.len();
-    lists::copy_at(b"/", out, k);
-    file_name(name, n.before, n.all, out, after(k, 1))
+    // The path of a file in the folder.
+    fn path_of(self, rt: &HostRuntime, name: &[u8], n: Alike) -> Result<Vec<u8>, AllocError> {
+        let mut path = Vec::from_slice(rt.alloc(), self.folder)?;
+        path.extend_from_slice(b"/")?;
+        put_file_name(name, n.before, n.all, &mut path, rt.alloc())?;
+        Ok(path)
+    }
+
+    // Writes the entry at a block.
+    fn write(self, rt: &HostRuntime, block: u64, e: reader::Entry) -> Result<(), Failure> {
+        let name = reader::entry_name(self.archive, block);
+        let n = self.alike(block);
+        let path = self.path_of(rt, name, n)?;
+        let mut out = file_space();
+        let length = self.data_of(e, &mut out);
+        write_file(
+            rt,
+            path.as_slice(),
+            lists::part(&out, 0, length),
+            self.terms.force,
+        )?;
+        say_alike(name, n);
+        Ok(())
+    }
+
+    // Writes each entry, or leaves it out: a line for each.
+    fn write_all(self, rt: &HostRuntime) -> Result<Tally, Failure> {
+        let mut tally = Tally {
+            written: 0,
+            left_out: 0,
+            failed: 0,
+        };
+        let mut block = self.first;
+        for _ in 0..MOST_BLOCKS {
+            let Some(e) = reader::next_entry(self.archive, block) else {
+                break;
+            };
+            if self.wants(e) {
+                match self.write(rt, block, e) {
+                    Ok(()) => tally.written = tally.written.saturating_add(1),
+                    Err(Failure::OutOfMemory) => return Err(Failure::OutOfMemory),
+                    Err(_) => tally.failed = tally.failed.saturating_add(1),
+                }
+            } else {
+                say_left_out(reader::entry_name(self.archive, block), e.kind);
+                tally.left_out = tally.left_out.saturating_add(1);
+            }
+            block = u64::from(e.next);
+        }
+        Ok(tally)
+    }
 }
 
 // Says that a file is one of several of its name.
@@ -213,141 +227,58 @@ fn say_alike(name: &[u8], n: Alike) {
     if n.all < 2 {
         return;
     }
-    text_number(STDOUT_FILENO, b"  number ", next(n.before));
+    text_number(STDOUT_FILENO, b"  number ", n.before.saturating_add(1));
     text_number(STDOUT_FILENO, b" of ", n.all);
     say(b" that are named ");
     names::path(STDOUT_FILENO, name);
     say(b"\n");
 }
 
-fn write_entry(
-    rt: &HostRuntime,
-    archive: &[u8],
-    name: &[u8],
-    e: reader::Entry,
-    folder: &[u8],
-    n: Alike,
-    force: bool,
-) -> u8 {
-    let mut path = io::buffer();
-    let k = path_in(folder, name, n, &mut path);
-    let mut out = file_space();
-    let length = data_of(archive, e, &mut out);
-    let status = write_file(
-        rt,
-        lists::part(&path, 0, k),
-        lists::part(&out, 0, length),
-        force,
-    );
-    if status == GOOD {
-        say_alike(name, n);
-    }
-    status
-}
-
-fn leave_out(name: &[u8], kind: u8, t: Tally) -> Tally {
+fn say_left_out(name: &[u8], kind: u8) {
     say(b"left out: ");
     names::path(STDOUT_FILENO, name);
     no_bytes(STDOUT_FILENO, kind);
     say(b"\n");
-    Tally {
-        written: t.written,
-        left_out: next(t.left_out),
-        failed: t.failed,
-    }
 }
 
-fn counted(status: u8, t: Tally) -> Tally {
-    if status == GOOD {
-        return Tally {
-            written: next(t.written),
-            left_out: t.left_out,
-            failed: t.failed,
-        };
-    }
-    Tally {
-        written: t.written,
-        left_out: t.left_out,
-        failed: next(t.failed),
-    }
-}
-
-// Writes the entry at a block, or leaves it out: a line for each.
-fn get_entry(
-    rt: &HostRuntime,
-    archive: &[u8],
-    first: u16,
-    block: u64,
-    e: reader::Entry,
-    folder: &[u8],
-    empty: bool,
-    force: bool,
-    t: Tally,
-) -> Tally {
-    let name = reader::entry_name(archive, block);
-    if !is_wanted(e, empty) {
-        return leave_out(name, e.kind, t);
-    }
-    let n = count_alike(archive, first, block, empty);
-    counted(write_entry(rt, archive, name, e, folder, n, force), t)
-}
-
-fn get_entries(
-    rt: &HostRuntime,
-    archive: &[u8],
-    first: u16,
-    folder: &[u8],
-    empty: bool,
-    force: bool,
-) -> Tally {
-    let mut t = Tally {
-        written: 0,
-        left_out: 0,
-        failed: 0,
-    };
-    let mut block = first as u64;
-    for k in 0..4096u16 {
-        if block == 0 {
-            return t;
-        }
-        let e = reader::next_entry(archive, block);
-        t = get_entry(rt, archive, first, block, e, folder, empty, force, t);
-        block = e.next as u64;
-    }
-    t
-}
-
-fn say_tally(rt: &HostRuntime, t: Tally) -> u8 {
+fn say_tally(rt: &HostRuntime, tally: Tally) -> Result<(), Failure> {
     say(b"\n");
-    count(STDOUT_FILENO, t.written, b"file written", b"files written");
-    text_number(STDOUT_FILENO, b", ", t.left_out);
+    count(
+        STDOUT_FILENO,
+        tally.written,
+        b"file written",
+        b"files written",
+    );
+    text_number(STDOUT_FILENO, b", ", tally.left_out);
     say(b" left out");
-    if t.failed == 0 {
+    if tally.failed == 0 {
         return finish(rt, b"\n");
     }
-    text_number(STDOUT_FILENO, b", ", t.failed);
-    finish(rt, b" not written\n");
-    TROUBLE
+    text_number(STDOUT_FILENO, b", ", tally.failed);
+    finish(rt, b" not written\n")?;
+    Err(Failure::Trouble)
 }
 
-// Writes every Binary file of a disk into a folder; those of other types too, empty, where `empty` is said.
-pub fn get_all(rt: &HostRuntime, disk: &[u8], folder: &[u8], empty: bool, force: bool) -> u8 {
+// Writes every Binary file of a disk into a folder; those of other types too, empty, where that is said.
+pub fn get_all(rt: &HostRuntime, disk: &[u8], folder: &[u8], terms: Terms) -> Result<(), Failure> {
     if is_dash(folder) {
         tell(b"linefiles: --all writes to a folder, not to standard output\n");
-        return TROUBLE;
+        return Err(Failure::Trouble);
     }
     let mut out = archive_space();
-    let h = writer::write_archive(disk, &mut out);
-    if h.refusal == OVERLONG {
-        return refuse_overlong(disk);
-    }
-    if h.refusal != 0 {
-        return refuse(disk, h.refusal);
-    }
-    if !ready_folder(rt, folder) {
-        return TROUBLE;
-    }
-    let archive = lists::part(&out, 0, h.length);
-    let first = reader::open(archive).first;
-    say_tally(rt, get_entries(rt, archive, first, folder, empty, force))
+    let written = writer::write_archive(disk, &mut out);
+    let length = written.map_err(|why| refuse_archive(disk, why))?;
+    ready_folder(rt, folder)?;
+    let archive = lists::part(&out, 0, length);
+    let first = match reader::open(archive) {
+        Ok(opened) => u64::from(opened.first),
+        Err(_) => 0,
+    };
+    let source = Source {
+        archive,
+        first,
+        folder,
+        terms,
+    };
+    say_tally(rt, source.write_all(rt)?)
 }

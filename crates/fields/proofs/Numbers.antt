@@ -1,5 +1,5 @@
--- What holds of both editions, each by its two cases: the numbers, the order of the sectors on a track, and the functions that tell them. Assumes nothing.
-use mathlib.Core.Path.{◌≡◌, refl, sym, ap, ◌∙◌}
+-- What holds of both editions, each by its two cases: the numbers, the order of the sectors on a track. Assumes nothing.
+use mathlib.Core.Path.{◌≡◌, sym, ap, ◌∙◌}
 use mathlib.Core.Bool.{cond}
 use mathlib.Core.List.{List}
 use Prim.Native.Nat.{ℕ, ◌+◌, ◌*◌, ◌/◌, ◌%◌, ◌≤◌, ◌<◌}
@@ -15,7 +15,6 @@ use Rattle.lists.proofs.Split.{by_test, clash}
 use Rattle.lists.proofs.Table.{test_at}
 use Rattle.fields.specs.declared.Edition.{Edition}
 use Rattle.fields.specs.declared.Edition.TheVariants.{Sixteen, Thirteen}
-use Rattle.fields.specs.Scan.{place_after}
 use Rattle.fields.specs.Editions.{mark_of, nibbles_of, per_track, interleave, dos_sector}
 
 -- ---- the numbers
@@ -109,36 +108,3 @@ same_sector Sixteen p q hp hq =
 same_sector Thirteen p q hp hq =
     by_test (eqb p q) (λ t. t ∙ sym (eq-eqb q p (sym (eqb-true p q t))))
     (λ t. t ∙ sym (ne_eqb q p (λ u. clash (sym t ∙ eq-eqb p q (sym u)))))
-
--- ---- the functions that tell them
-module _ (ed : Edition) where
-  module _ (e : ed ≡ Sixteen) where
-    pub mark_16 : 0x96 ≡ mark_of ed
-    unfolding mark_of
-    mark_16 = rw e refl
-
-    pub nibbles_16 : 343 ≡ nibbles_of ed
-    unfolding nibbles_of
-    nibbles_16 = rw e refl
-
-    pub per_16 : 16 ≡ per_track ed
-    unfolding per_track
-    per_16 = rw e refl
-
-  module _ (e : ed ≡ Thirteen) where
-    pub mark_13 : 0xB5 ≡ mark_of ed
-    unfolding mark_of
-    mark_13 = rw e refl
-
-    pub nibbles_13 : 411 ≡ nibbles_of ed
-    unfolding nibbles_of
-    nibbles_13 = rw e refl
-
-    pub per_13 : 13 ≡ per_track ed
-    unfolding per_track
-    per_13 = rw e refl
-
-  pub find_is : (s : List ℕ) (i c r : ℕ) → c ≡ mark_of ed → r ≡ place_after c s i → r ≡ place_after (mark_of ed) s i
-  find_is s i c r k q = q ∙ ap (λ (m : ℕ). place_after m s i) k
-
-pub ruleset told = (mark_16, mark_13, nibbles_16, nibbles_13, per_16, per_13, find_is, rules)

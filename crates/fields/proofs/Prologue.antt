@@ -1,4 +1,4 @@
--- `prologue_at` and `recognize_prologue` over plain variables. Assumes nothing.
+-- `recognize_prologue` over plain variables. Assumes nothing.
 use mathlib.Core.Path.{◌≡◌, refl, sym, ap, ◌∙◌}
 use mathlib.Core.Bool.{Bool, true, false, cond, ◌&&◌, ◌||◌}
 use mathlib.Core.List.{List, [], ◌∷◌}
@@ -13,23 +13,6 @@ use Rattle.lists.proofs.Split.{by_test}
 use Rattle.fields.specs.Search.{skip, recognized}
 use Rattle.fields.specs.Scan.{mark_at, prologue_at}
 use Rattle.fields.proofs.Scan.{skip_hit, skip_miss, seeking_less}
-
--- ---- prologue_at
-module _ (s : List ℕ) (k : ℕ) (a : Bool) (e : a ≡ mark_at 0x96 s k) where
-  pub is_96 : a ≡ true → 0x96 ≡ prologue_at s k
-  unfolding prologue_at
-  is_96 t = rw (← e, t) refl
-
-  module _ (b : Bool) (q : b ≡ mark_at 0xB5 s k) (n : a ≡ false) where
-    pub is_B5 : b ≡ true → 0xB5 ≡ prologue_at s k
-    unfolding prologue_at
-    is_B5 t = rw (← e, n, ← q, t) refl
-
-    pub is_none : b ≡ false → 0 ≡ prologue_at s k
-    unfolding prologue_at
-    is_none t = rw (← e, n, ← q, t) refl
-
-pub ruleset prologue = (is_96, is_B5, is_none, rules)
 
 -- ---- recognize_prologue
 recognized_miss : (x : ℕ) (l : List ℕ) → eqb x 0xD5 ≡ false → recognized (x ∷ l) ≡ recognized l

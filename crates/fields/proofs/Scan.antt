@@ -1,8 +1,10 @@
--- `mark_at`, `find_prologue`, `find_and_parse_address_field`, `find_and_parse_data_field` and `parse_nib_sector` over plain variables. Assumes nothing.
+-- `find_prologue`, `find_and_parse_address_field`, `find_and_parse_data_field` and `parse_nib_sector` over plain variables. Assumes nothing.
 use mathlib.Core.Path.{◌≡◌, refl, sym, ap, ◌∙◌}
 use mathlib.Core.Bool.{Bool, true, false, cond, ◌&&◌}
 use mathlib.Core.List.{List, [], ◌∷◌}
-use mathlib.Core.Option.{Option, none, some}
+use Rattle.std.specs.Prelude.{Option, Some, None, Ok, Err}
+use Rattle.outcome.specs.declared.Refusal.{Refusal}
+use Rattle.outcome.specs.declared.Refusal.TheVariants.{AddressSum}
 use Prim.Native.Nat.{ℕ, suc, ◌+◌, ◌-◌, ◌*◌, ◌≤◌, ◌<◌}
 use native.Mathlib.Omega.{arith}
 use borrow.Author.Rules.{rules}
@@ -17,26 +19,9 @@ use Rattle.fields.specs.declared.Edition.{Edition}
 use Rattle.fields.specs.Editions.{mark_of, nibbles_of}
 use Rattle.fields.specs.Search.{skip}
 use Rattle.fields.specs.Fields.{after}
-use Rattle.fields.specs.Scan.{byte_at4, mark_at, place_of, place_after, no_address, address_in, address_from, no_data, data_from, no_pair, pair_of, pair_from}
+use Rattle.fields.specs.Scan.{byte_at4, mark_at, place_of, place_after, address_in, address_from, data_from, pair_from}
 use Rattle.fields.specs.declared.AddressField.{AddressField}
 use Rattle.fields.specs.declared.DataField.{DataField}
-use Rattle.fields.specs.declared.FieldPair.{FieldPair}
-
--- ---- mark_at
-module _ (c : ℕ) (s : List ℕ) (k b : ℕ) where
-  pub mark_not_D5 : b ≡ get_or s k 0 → (b ≡ 213 → ⊥) → false ≡ mark_at c s k
-  unfolding mark_at
-  mark_not_D5 e h = rw (← e, ne_eqb b 213 h) refl
-
-  pub mark_not_AA : (d : ℕ) → d ≡ get_or s k 0 → d ≡ 213 → b ≡ get_or s (k + 1) 0 → (b ≡ 170 → ⊥) → false ≡ mark_at c s k
-  unfolding mark_at
-  mark_not_AA d q z e h = rw (← q, eq-eqb d 213 z, ← e, ne_eqb b 170 h) refl
-
-  pub mark_third : (d a : ℕ) → d ≡ get_or s k 0 → d ≡ 213 → a ≡ get_or s (k + 1) 0 → a ≡ 170 → b ≡ get_or s (k + 2) 0 → eqb b c ≡ mark_at c s k
-  unfolding mark_at
-  mark_third d a q z r y e = rw (← q, eq-eqb d 213 z, ← r, eq-eqb a 170 y, ← e) refl
-
-pub ruleset marked = (mark_not_D5, mark_not_AA, mark_third, rules)
 
 -- ---- the search for D5 AA c, by places
 -- a byte is D5h, or not
@@ -61,12 +46,12 @@ after_skip c (x ∷ l) =
 
 -- one step of the search
 after_cons : (c x a b : ℕ) (l r t : List ℕ) → get_or l 0 0 ≡ a → get_or l 1 0 ≡ b → drop 2 l ≡ r → l ≡ t
-    → after c (x ∷ l) ≡ cond (eqb x 0xD5 && (eqb a 0xAA && eqb b c)) (some r) (after c t)
+    → after c (x ∷ l) ≡ cond (eqb x 0xD5 && (eqb a 0xAA && eqb b c)) (Some r) (after c t)
 unfolding after
-after_cons c x a b l r t ea eb er et = λ i. cond (eqb x 0xD5 && (eqb (ea i) 0xAA && eqb (eb i) c)) (some (er i)) (after c (et i))
+after_cons c x a b l r t ea eb er et = λ i. cond (eqb x 0xD5 && (eqb (ea i) 0xAA && eqb (eb i) c)) (Some (er i)) (after c (et i))
 
 -- what stands at place k
-after_at : (c : ℕ) (s : List ℕ) (k : ℕ) → k < length s → after c (drop k s) ≡ cond (mark_at c s k) (some (drop (k + 3) s)) (after c (drop (k + 1) s))
+after_at : (c : ℕ) (s : List ℕ) (k : ℕ) → k < length s → after c (drop k s) ≡ cond (mark_at c s k) (Some (drop (k + 3) s)) (after c (drop (k + 1) s))
 unfolding mark_at
 after_at c s k h =
     let a : suc k + 0 ≡ k + 1 = omega arith in
@@ -106,30 +91,30 @@ seeking_turn c s i k j b w h e z q =
 pub seeking_less : (s : List ℕ) (k j : ℕ) → k < length s → j ≡ k + 1 + skip (drop (k + 1) s) → length s - j < length s - k
 seeking_less s k j h q = omega arith
 
-place_some : (s : List ℕ) (k : ℕ) → k ≤ length s → place_of s (some (drop k s)) ≡ k
-place_some s k h = rw (length-drop k s) (omega arith)
+place_some : (s : List ℕ) (k : ℕ) → k ≤ length s → place_of s (Some (drop k s)) ≡ Some k
+place_some s k h = rw (length-drop k s) (ap Some (omega arith))
 
-pub seeking_found : (c : ℕ) (s : List ℕ) (i k : ℕ) (b : Bool) → Seeking c s i k → 0 < c → k < length s → b ≡ mark_at c s k → b ≡ true → k + 3 ≡ place_after c s i
+pub seeking_found : (c : ℕ) (s : List ℕ) (i k : ℕ) (b : Bool) → Seeking c s i k → 0 < c → k < length s → b ≡ mark_at c s k → b ≡ true → Some (k + 3) ≡ place_after c s i
 unfolding place_after
 seeking_found c s i k b w p h e z =
     let m : mark_at c s k ≡ true = sym e ∙ z in
-    let q : after c (drop i s) ≡ some (drop (k + 3) s) = w.same ∙ after_at c s k h ∙ rw m refl in
+    let q : after c (drop i s) ≡ Some (drop (k + 3) s) = w.same ∙ after_at c s k h ∙ rw m refl in
     rw q (sym (place_some s (k + 3) (mark_within c s k p m)))
 
-pub seeking_end : (c : ℕ) (s : List ℕ) (i k : ℕ) → Seeking c s i k → length s ≤ k → 0 ≡ place_after c s i
+pub seeking_end : (c : ℕ) (s : List ℕ) (i k : ℕ) → Seeking c s i k → length s ≤ k → None ≡ place_after c s i
 unfolding place_after after
 seeking_end c s i k w h = rw (w.same, drop_of_length-le s {i = k} h) refl
 
 pub ruleset seeking = (seeking_start, seeking_turn, seeking_less, seeking_found, seeking_end, rules)
 
 -- ---- what the place says
-place_le : (s : List ℕ) (o : Option (List ℕ)) → place_of s o ≤ length s
-place_le s none = omega arith
-place_le s (some r) = omega arith
+place_le : (s : List ℕ) (o : Option (List ℕ)) (j : ℕ) → Some j ≡ place_of s o → j ≤ length s
+place_le s None j e = let z : ◌≡◌ {A = ℕ} 0 1 = cc in absurd (omega arith)
+place_le s (Some r) j e = let q : j ≡ length s - length r = cc in omega arith
 
-pub after_le : (c : ℕ) (s : List ℕ) (i j : ℕ) → j ≡ place_after c s i → j ≤ length s
+pub after_le : (c : ℕ) (s : List ℕ) (i j : ℕ) → Some j ≡ place_after c s i → j ≤ length s
 unfolding place_after
-after_le c s i j e = rw e (place_le s (after c (drop i s)))
+after_le c s i j e = place_le s (after c (drop i s)) j e
 
 -- ---- byte_4_and_4
 pub byte_at : (s : List ℕ) (j k a b r : ℕ) → a ≡ get_or s (j + 2 * k) 0 → b ≡ get_or s (j + (2 * k + 1)) 0 → r ≡ of44 a b → r ≡ byte_at4 s j k
@@ -139,60 +124,60 @@ byte_at s j k a b r p q e = e ∙ rw (p, q, get_or-drop j s (2 * k) 0, get_or-dr
 pub ruleset bytes = (byte_at, rules)
 
 -- ---- the returns of find_and_parse_address_field
-module _ (ed : Edition) (s : List ℕ) (i j : ℕ) (e : j ≡ place_after (mark_of ed) s i) where
-  pub no_mark : (r : AddressField) → j ≡ 0 → r ≡ no_address 0 → r ≡ address_from ed s i
+module _ (ed : Edition) (s : List ℕ) (i : ℕ) where
+  pub no_mark : None ≡ place_after (mark_of ed) s i → Ok None ≡ address_from ed s i
   unfolding address_from
-  no_mark r z q = q ∙ rw (← e, eq-eqb j 0 z) refl
+  no_mark e = rw (← e) refl
 
-  module _ (n : j ≡ 0 → ⊥) where
-    pub cut_off : (r : AddressField) → length s - j < 11 → r ≡ no_address 0 → r ≡ address_from ed s i
+  module _ (j : ℕ) (e : Some j ≡ place_after (mark_of ed) s i) where
+    pub cut_off : length s - j < 11 → Ok None ≡ address_from ed s i
     unfolding address_from address_in
-    cut_off r h q = q ∙ rw (← e, ne_eqb j 0 n, lt-ltb (length (drop j s)) 11 (rw (length-drop j s) h)) refl
+    cut_off h = rw (← e, lt-ltb (length (drop j s)) 11 (rw (length-drop j s) h)) refl
 
     module _ (h : 11 ≤ length s - j) (v t p w : ℕ) (ev : v ≡ byte_at4 s j 0) (et : t ≡ byte_at4 s j 1) (ep : p ≡ byte_at4 s j 2) (ew : w ≡ byte_at4 s j 3) where
-      pub bad_sum : (r : AddressField) → (w ≡ bit_xor (bit_xor v t) p → ⊥) → r ≡ no_address 8 → r ≡ address_from ed s i
+      pub bad_sum : (w ≡ bit_xor (bit_xor v t) p → ⊥) → Err AddressSum ≡ address_from ed s i
       unfolding address_from address_in byte_at4
-      bad_sum r u q =
-          q ∙ rw (← e, ne_eqb j 0 n, le-ltb (length (drop j s)) 11 (rw (length-drop j s) h), ← ev, ← et, ← ep, ← ew, ne_eqb w (bit_xor (bit_xor v t) p) u) refl
+      bad_sum u = rw (← e, le-ltb (length (drop j s)) 11 (rw (length-drop j s) h), ← ev, ← et, ← ep, ← ew, ne_eqb w (bit_xor (bit_xor v t) p) u) refl
 
-      pub address_is : w ≡ bit_xor (bit_xor v t) p → record { refusal = 0; volume = v; track = t; sector = p; next = j + 11 } ≡ address_from ed s i
+      pub address_is : w ≡ bit_xor (bit_xor v t) p → Ok (Some (record { volume = v; track = t; sector = p; next = j + 11 })) ≡ address_from ed s i
       unfolding address_from address_in byte_at4
-      address_is u =
-          rw (← e, ne_eqb j 0 n, le-ltb (length (drop j s)) 11 (rw (length-drop j s) h), ← ev, ← et, ← ep, ← ew, eq-eqb w (bit_xor (bit_xor v t) p) u) refl
+      address_is u = rw (← e, le-ltb (length (drop j s)) 11 (rw (length-drop j s) h), ← ev, ← et, ← ep, ← ew, eq-eqb w (bit_xor (bit_xor v t) p) u) refl
 
 pub ruleset addressed = (after_le, no_mark, cut_off, bad_sum, address_is, rules)
 
 -- ---- the returns of find_and_parse_data_field
-module _ (ed : Edition) (s : List ℕ) (i j : ℕ) (e : j ≡ place_after 0xAD s i) where
-  pub no_data_lem : j ≡ 0 → no_data ≡ data_from ed s i
+module _ (ed : Edition) (s : List ℕ) (i : ℕ) where
+  pub no_data : None ≡ place_after 0xAD s i → None ≡ data_from ed s i
   unfolding data_from
-  no_data_lem z = rw (← e, eq-eqb j 0 z) refl
+  no_data e = rw (← e) refl
 
-  module _ (n : j ≡ 0 → ⊥) where
-    pub data_cut : (m : ℕ) → m ≡ nibbles_of ed → length s - j < m + 3 → no_data ≡ data_from ed s i
+  module _ (j : ℕ) (e : Some j ≡ place_after 0xAD s i) where
+    pub data_cut : (m : ℕ) → m ≡ nibbles_of ed → length s - j < m + 3 → None ≡ data_from ed s i
     unfolding data_from
-    data_cut m k h = rw (← k, ← e, ne_eqb j 0 n, lt-ltb (length (drop j s)) (m + 3) (rw (length-drop j s) h)) refl
+    data_cut m k h = rw (← e, ← k, lt-ltb (length (drop j s)) (m + 3) (rw (length-drop j s) h)) refl
 
-    pub data_is : (m : ℕ) → m ≡ nibbles_of ed → m + 3 ≤ length s - j → record { nibbles = j; next = j + (m + 3) } ≡ data_from ed s i
+    pub data_is : (m : ℕ) → m ≡ nibbles_of ed → m + 3 ≤ length s - j → Some (record { nibbles = j; next = j + (m + 3) }) ≡ data_from ed s i
     unfolding data_from
-    data_is m k h = rw (← k, ← e, ne_eqb j 0 n, le-ltb (length (drop j s)) (m + 3) (rw (length-drop j s) h)) refl
+    data_is m k h = rw (← e, ← k, le-ltb (length (drop j s)) (m + 3) (rw (length-drop j s) h)) refl
 
-pub ruleset fielded = (after_le, no_data_lem, data_cut, data_is, rules)
+pub ruleset fielded = (after_le, no_data, data_cut, data_is, rules)
 
 -- ---- the returns of parse_nib_sector
-module _ (ed : Edition) (s : List ℕ) (i : ℕ) (a : AddressField) (e : a ≡ address_from ed s i) where
-  pub pair_none : (r : FieldPair) → a.next ≡ 0 → r ≡ no_pair a.refusal → r ≡ pair_from ed s i
+module _ (ed : Edition) (s : List ℕ) (i : ℕ) where
+  pub pair_bad : (r : Refusal) → Err r ≡ address_from ed s i → Err r ≡ pair_from ed s i
   unfolding pair_from
-  pair_none r z q = q ∙ rw (← e, eq-eqb a.next 0 z) refl
+  pair_bad r e = rw (← e) refl
 
-  module _ (n : a.next ≡ 0 → ⊥) (d : DataField) (q : d ≡ data_from ed s a.next) where
-    pub pair_cut : (r : FieldPair) → d.next ≡ 0 → r ≡ no_pair 0 → r ≡ pair_from ed s i
-    unfolding pair_from pair_of
-    pair_cut r z w = w ∙ rw (← e, ne_eqb a.next 0 n, ← q, eq-eqb d.next 0 z) refl
+  pub pair_none : Ok None ≡ address_from ed s i → Ok None ≡ pair_from ed s i
+  unfolding pair_from
+  pair_none e = rw (← e) refl
 
-    pub pair_is : (d.next ≡ 0 → ⊥)
-        → record { refusal = 0; volume = a.volume; track = a.track; sector = a.sector; nibbles = d.nibbles; next = d.next } ≡ pair_from ed s i
-    unfolding pair_from pair_of
-    pair_is z = rw (← e, ne_eqb a.next 0 n, ← q, ne_eqb d.next 0 z) refl
+  module _ (a : AddressField) (e : Ok (Some a) ≡ address_from ed s i) where
+    pub pair_cut : None ≡ data_from ed s a.next → Ok None ≡ pair_from ed s i
+    unfolding pair_from
+    pair_cut q = rw (← e, ← q) refl
 
-pub ruleset paired = (pair_none, pair_cut, pair_is, rules)
+    pub pair_is : (d : DataField) → Some d ≡ data_from ed s a.next
+        → Ok (Some (record { volume = a.volume; track = a.track; sector = a.sector; nibbles = d.nibbles; next = d.next })) ≡ pair_from ed s i
+    unfolding pair_from
+    pair_is d q = rw (← e, ← q) refl

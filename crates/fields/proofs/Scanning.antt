@@ -1,11 +1,12 @@
 -- One step of the search for fields, and that the stream's length is fuel enough. Assumes nothing.
 use mathlib.Core.Path.{◌≡◌, refl, sym}
 use mathlib.Core.List.{List, [], ◌∷◌}
-use mathlib.Core.Option.{Option, none, some}
+use Rattle.std.specs.Prelude.{Option, Some, None}
 use Prim.Native.Nat.{ℕ, zero, suc, ◌+◌, ◌<◌, ◌≤◌}
 use native.Mathlib.Omega.{arith}
 use lib.ListN.{length, drop, length-drop}
-use Rattle.outcome.specs.Outcome.{Outcome, given, ◌>>=◌}
+use Rattle.std.specs.Prelude.{Ok}
+use Rattle.outcome.specs.Outcome.{Outcome, ◌>>=◌}
 use Rattle.fields.specs.declared.Edition.{Edition}
 use Rattle.fields.specs.Editions.{mark_of, nibbles_of}
 use Rattle.fields.specs.Search.{Free}
@@ -17,10 +18,10 @@ field v t p ns = record { volume = v; track = t; sector = p; nibbles = ns }
 
 -- f in front of what the rest gives
 abbrev pub behind : Field → Outcome (List Field) → Outcome (List Field)
-behind f o = o >>= λ fs. given (f ∷ fs)
+behind f o = o >>= λ fs. Ok (f ∷ fs)
 
 -- a stream without D5h has no field
-pub fields_none : (ed : Edition) (fuel : ℕ) (g : List ℕ) → Free g → fields ed fuel g ≡ given []
+pub fields_none : (ed : Edition) (fuel : ℕ) (g : List ℕ) → Free g → fields ed fuel g ≡ Ok []
 unfolding fields from_address
 fields_none ed zero g h = refl
 fields_none ed (suc fuel) g h = rw (after_none (mark_of ed) g h) refl
@@ -32,18 +33,18 @@ free_short [] h = free_nil
 free_short (x ∷ s) h = absurd (omega arith)
 
 -- if the rest of the stream is the same for m and n, so is the whole, behind the data mark ..
-fuel_data : (ed : Edition) (m n : ℕ) (a : List ℕ) (o : Option (List ℕ)) → ((b : List ℕ) → o ≡ some b → fields ed m (drop (nibbles_of ed + 3) b) ≡ fields ed n (drop (nibbles_of ed + 3) b))
+fuel_data : (ed : Edition) (m n : ℕ) (a : List ℕ) (o : Option (List ℕ)) → ((b : List ℕ) → o ≡ Some b → fields ed m (drop (nibbles_of ed + 3) b) ≡ fields ed n (drop (nibbles_of ed + 3) b))
     → from_data ed (fields ed m) a o ≡ from_data ed (fields ed n) a o
 unfolding from_data
-fuel_data ed m n a none same = refl
-fuel_data ed m n a (some b) same = rw (same b refl) refl
+fuel_data ed m n a None same = refl
+fuel_data ed m n a (Some b) same = rw (same b refl) refl
 
 -- .. and behind the address mark
 fuel_address : (ed : Edition) (m n : ℕ) (s : List ℕ) → ((r : List ℕ) → length r < length s → fields ed m r ≡ fields ed n r)
     → (o : Option (List ℕ)) → after (mark_of ed) s ≡ o → from_address ed (fields ed m) o ≡ from_address ed (fields ed n) o
 unfolding from_address
-fuel_address ed m n s same none e = refl
-fuel_address ed m n s same (some a) e =
+fuel_address ed m n s same None e = refl
+fuel_address ed m n s same (Some a) e =
     rw (fuel_data ed m n a (after 0xAD (drop 11 a)) (λ b q. same (drop (nibbles_of ed + 3) b)
     (omega (arith, length-drop (nibbles_of ed + 3) b, after_shorter 0xAD (drop 11 a) b q, length-drop 11 a, after_shorter (mark_of ed) s a e)))) refl
 

@@ -1,4 +1,4 @@
--- `mark`, `marks_in_16`, `find_slow`, `find_fast` and `find_mark` over plain variables. Assumes nothing.
+-- `marks_in_16`, `find_slow`, `find_fast` and `find_mark` over plain variables. Assumes nothing.
 use mathlib.Core.Path.{◌≡◌, refl, sym, ◌∙◌}
 use mathlib.Core.List.{List}
 use Prim.Native.Nat.{ℕ, zero, suc, ◌+◌, ◌-◌, ◌≤◌, ◌<◌}
@@ -12,15 +12,6 @@ use lib.Seq.{drop-cons}
 use Rattle.lists.proofs.Split.{by_lt}
 use Rattle.lists.proofs.Bits.{or_bit, or_none}
 use Rattle.fields.specs.Search.{is_mark, skip, Clear}
-
--- ---- mark
-pub mark_yes : (b : ℕ) → b ≡ 213 → 1 ≡ is_mark b
-mark_yes b h = rw (eq-eqb _ _ h) refl
-
-pub mark_no : (b : ℕ) → (b ≡ 213 → ⊥) → 0 ≡ is_mark b
-mark_no b h = rw (ne_eqb _ _ h) refl
-
-pub ruleset marked = (mark_yes, mark_no, rules)
 
 -- ---- the list from k on
 skip_mark : (s : List ℕ) (k : ℕ) → k < length s → get_or s k 0 ≡ 213 → skip (drop k s) ≡ 0

@@ -1,10 +1,9 @@
--- The scan of a stream as code makes it, from place to place: document 01, "Fields". A place 0 says that nothing is found.
-use Rattle.std.specs.Prelude.{◌≡◌, Bool, cond, ◌&&◌, List, [], ◌∷◌, ℕ, ◌+◌, ◌-◌, ◌<◌, ltb, eqb, length, get_or, take, drop}
-use Rattle.std.proofs.Math.Option.{Option, none, some}
+-- The scan of a stream as code makes it, from place to place: document 01, "Fields".
+use Rattle.std.specs.Prelude.{◌≡◌, Bool, cond, ◌&&◌, List, [], ◌∷◌, ℕ, ◌+◌, ◌-◌, ltb, eqb, length, get_or, take, drop}
+use Rattle.std.specs.Prelude.{Option, Some, None, Ok}
 use Rattle.std.specs.Int.Bits.{bit_xor}
 use Rattle.outcome.specs.declared.Refusal.TheVariants.{AddressSum}
-use Rattle.outcome.specs.Refusal.{code}
-use Rattle.outcome.specs.Outcome.{Outcome}
+use Rattle.outcome.specs.Outcome.{Outcome, ◌>>=◌, ◌>>◌, require}
 use Rattle.fields.specs.Editions.{mark_of, nibbles_of}
 use Rattle.fields.specs.Fields.{after, byte4, Field, fields}
 use Rattle.fields.specs.declared.Edition.{Edition}
@@ -22,12 +21,12 @@ unfoldable pub prologue_at : List ℕ → ℕ → ℕ
 prologue_at s k = cond (mark_at 0x96 s k) 0x96 (cond (mark_at 0xB5 s k) 0xB5 0)
 
 -- the place in s of what stands at its end
-abbrev pub place_of : List ℕ → Option (List ℕ) → ℕ
-place_of s none = 0
-place_of s (some r) = length s - length r
+abbrev pub place_of : List ℕ → Option (List ℕ) → Option ℕ
+place_of s None = None
+place_of s (Some r) = Some (length s - length r)
 
 -- the place after the first D5 AA c from place i on
-unfoldable pub place_after : ℕ → List ℕ → ℕ → ℕ
+unfoldable pub place_after : ℕ → List ℕ → ℕ → Option ℕ
 place_after c s i = place_of s (after c (drop i s))
 
 -- ---- an address field
@@ -35,47 +34,46 @@ place_after c s i = place_of s (after c (drop i s))
 unfoldable pub byte_at4 : List ℕ → ℕ → ℕ → ℕ
 byte_at4 s j k = byte4 (drop j s) k
 
--- no whole address, or one whose sum is wrong
-abbrev pub no_address : ℕ → AddressField
-no_address number = record { refusal = number; volume = 0; track = 0; sector = 0; next = 0 }
-
--- the address after a mark, where a is what stands there; 11: the eight bytes and the three unread
-unfoldable pub address_in : List ℕ → ℕ → AddressField
+-- the address after a mark, where a is what stands there: none where it is not whole, 8 where its sum is wrong; 11: the eight bytes and the three unread
+unfoldable pub address_in : List ℕ → ℕ → Outcome (Option AddressField)
 address_in a place =
-    cond (ltb (length a) 11) (no_address 0)
-    (cond (eqb (byte4 a 3) (bit_xor (bit_xor (byte4 a 0) (byte4 a 1)) (byte4 a 2)))
-    (record { refusal = 0; volume = byte4 a 0; track = byte4 a 1; sector = byte4 a 2; next = place + 11 })
-    (no_address (code AddressSum)))
+    cond (ltb (length a) 11) (Ok None)
+    (require (eqb (byte4 a 3) (bit_xor (bit_xor (byte4 a 0) (byte4 a 1)) (byte4 a 2))) AddressSum >>
+    Ok (Some (record { volume = byte4 a 0; track = byte4 a 1; sector = byte4 a 2; next = place + 11 })))
+
+-- the same, where o is the place after the mark
+abbrev pub address_at : List ℕ → Option ℕ → Outcome (Option AddressField)
+address_at s None = Ok None
+address_at s (Some j) = address_in (drop j s) j
 
 -- the first address from place i on
-unfoldable pub address_from : Edition → List ℕ → ℕ → AddressField
-address_from ed s i = let j = place_after (mark_of ed) s i in cond (eqb j 0) (no_address 0) (address_in (drop j s) j)
+unfoldable pub address_from : Edition → List ℕ → ℕ → Outcome (Option AddressField)
+address_from ed s i = address_at s (place_after (mark_of ed) s i)
 
 -- ---- a data field
--- no whole data field
-abbrev pub no_data : DataField
-no_data = record { nibbles = 0; next = 0 }
+-- the data field after a mark, where o is the place after it: none where it is not whole; 3: the three unread bytes
+abbrev pub data_at : Edition → List ℕ → Option ℕ → Option DataField
+data_at ed s None = None
+data_at ed s (Some j) = cond (ltb (length (drop j s)) (nibbles_of ed + 3)) None (Some (record { nibbles = j; next = j + (nibbles_of ed + 3) }))
 
--- the first data field from place i on; 3: the three unread bytes
-unfoldable pub data_from : Edition → List ℕ → ℕ → DataField
-data_from ed s i =
-    let j = place_after 0xAD s i in
-    cond (eqb j 0) no_data (cond (ltb (length (drop j s)) (nibbles_of ed + 3)) no_data (record { nibbles = j; next = j + (nibbles_of ed + 3) }))
+-- the first data field from place i on
+unfoldable pub data_from : Edition → List ℕ → ℕ → Option DataField
+data_from ed s i = data_at ed s (place_after 0xAD s i)
 
 -- ---- a pair of them
--- no whole pair, or an address whose sum is wrong
-abbrev pub no_pair : ℕ → FieldPair
-no_pair number = record { refusal = number; volume = 0; track = 0; sector = 0; nibbles = 0; next = 0 }
-
 -- an address and its data
-unfoldable pub pair_of : AddressField → DataField → FieldPair
-pair_of a d =
-    cond (eqb d.next 0) (no_pair 0)
-    (record { refusal = 0; volume = a.volume; track = a.track; sector = a.sector; nibbles = d.nibbles; next = d.next })
+abbrev pub pair_of : AddressField → Option DataField → Option FieldPair
+pair_of a None = None
+pair_of a (Some d) = Some (record { volume = a.volume; track = a.track; sector = a.sector; nibbles = d.nibbles; next = d.next })
+
+-- the same, where the address may be missing
+abbrev pub pair_with : Edition → List ℕ → Option AddressField → Option FieldPair
+pair_with ed s None = None
+pair_with ed s (Some a) = pair_of a (data_from ed s a.next)
 
 -- the first pair from place i on
-unfoldable pub pair_from : Edition → List ℕ → ℕ → FieldPair
-pair_from ed s i = let a = address_from ed s i in cond (eqb a.next 0) (no_pair a.refusal) (pair_of a (data_from ed s a.next))
+unfoldable pub pair_from : Edition → List ℕ → ℕ → Outcome (Option FieldPair)
+pair_from ed s i = address_from ed s i >>= λ a. Ok (pair_with ed s a)
 
 -- ---- the pairs of a stream
 module _ (ed : Edition) where
@@ -90,4 +88,4 @@ module _ (ed : Edition) where
   -- from place i on stand the pairs xs, and behind them is place e
   abbrev pub Run : List ℕ → ℕ → ℕ → List Field → Type 0
   Run s i e [] = i ≡ e
-  Run s i e (x ∷ xs) = (0 < (pair_from ed s i).next) × (field_of s (pair_from ed s i) ≡ x) × Run s (pair_from ed s i).next e xs
+  Run s i e (x ∷ xs) = (p : FieldPair) × (Ok (Some p) ≡ pair_from ed s i) × (field_of s p ≡ x) × Run s p.next e xs

@@ -4,41 +4,39 @@
 ghost use Rattle.std.specs.Prelude.{◌≡◌, ◌+◌, ◌*◌, ◌≤◌, ◌<◌, length, drop};
 ghost use Rattle.lists.specs.Fill.{tab};
 ghost use Rattle.fields.specs.Search.{skip, is_mark, Clear, recognized};
-ghost use Rattle.fields.specs.Scan.{byte_at4, mark_at, prologue_at, place_after, no_address, address_from, data_from, no_pair, pair_from};
+ghost use Rattle.fields.specs.Scan.{byte_at4, mark_at, prologue_at, place_after, address_from, data_from, pair_from};
 ghost use Rattle.fields.specs.Editions.{mark_of, nibbles_of, per_track, interleave};
 
 use lists::byte_at;
 use nibble::parse_nibble_byte_4_and_4;
-use outcome::ADDRESS_SUM;
+use outcome::Refusal;
 
 // The two editions of a stream: DOS 3.3 with 16 sectors a track, DOS 3.2 with 13.
-#[derive(Clone, Copy)]
+#[derive(Clone, Copy, Debug, PartialEq, Eq)]
 pub enum Edition {
     Sixteen,
     Thirteen,
 }
 
-// An address field: what it says and the place behind it, 0 where there is none. `refusal` is 8 where its sum is wrong.
-#[derive(Clone, Copy)]
+// An address field: what it says, and the place behind it.
+#[derive(Clone, Copy, Debug, PartialEq, Eq)]
 pub struct AddressField {
-    pub refusal: u8,
     pub volume: u8,
     pub track: u8,
     pub sector: u8,
     pub next: usize,
 }
 
-// A data field: the place of its nibbles, the sum among them, and the place behind it; 0 where there is none.
-#[derive(Clone, Copy)]
+// A data field: the place of its nibbles, the sum among them, and the place behind it.
+#[derive(Clone, Copy, Debug, PartialEq, Eq)]
 pub struct DataField {
     pub nibbles: usize,
     pub next: usize,
 }
 
-// An address and the data that follow it (in the Rust Field). `next` is the place behind them, 0 where there is no pair.
-#[derive(Clone, Copy)]
+// An address and the data that follow it (in the Rust Field), and the place behind them.
+#[derive(Clone, Copy, Debug, PartialEq, Eq)]
 pub struct FieldPair {
-    pub refusal: u8,
     pub volume: u8,
     pub track: u8,
     pub sector: u8,
@@ -62,10 +60,8 @@ fn marks_in_16(s: &[u8], i: usize) -> u8
     ensures { Clear s.now i result 16 }
 {
     let mut hit: u8 = 0;
-    let mut j: usize = 0;
-    while j < 16 {
+    for j in 0..16 {
         hit = hit | mark(s[i + j]);
-        j += 1;
     }
     hit
 }
@@ -75,14 +71,12 @@ fn find_slow(s: &[u8], i: usize) -> usize
     requires { i ≤ length s.now }
     ensures { result ≡ i + skip (drop i s.now) }
 {
-    let mut k = i;
-    while k < s.len() {
+    for k in i..s.len() {
         if s[k] == 0xD5 {
             return k;
         }
-        k += 1;
     }
-    k
+    s.len()
 }
 
 // The same, 16 bytes at a time.
@@ -111,35 +105,31 @@ pub fn find_mark(s: &[u8], i: usize) -> usize
 }
 
 // The mark D5 AA c stands at place k.
+#[tactic(auto, unfolding(crate::specs::Scan::mark_at))]
 fn mark_at(s: &[u8], k: usize, c: u8) -> bool
     requires { k < length s.now }
     ensures { result ≡ mark_at c s.now k }
 {
-    if byte_at(s, k) != 0xD5 {
-        return false;
-    }
-    if byte_at(s, k + 1) != 0xAA {
-        return false;
-    }
-    byte_at(s, k + 2) == c
+    byte_at(s, k) == 0xD5 && (byte_at(s, k + 1) == 0xAA && byte_at(s, k + 2) == c)
 }
 
-// The place behind the first D5 AA c from i on, 0 where there is none.
-fn find_prologue(s: &[u8], i: usize, c: u8) -> usize
+// The place behind the first D5 AA c from i on.
+fn find_prologue(s: &[u8], i: usize, c: u8) -> Option<usize>
     requires { 0 < c }
     ensures { result ≡ place_after c s.now i }
 {
     let mut k = find_mark(s, i);
     while k < s.len() {
         if mark_at(s, k, c) {
-            return k + 3;
+            return Some(k + 3);
         }
         k = find_mark(s, k + 1);
     }
-    0
+    None
 }
 
 // The last byte of the prologue at place k, 0 where there is none.
+#[tactic(auto, unfolding(crate::specs::Scan::prologue_at))]
 fn prologue_at(s: &[u8], k: usize) -> u8
     requires { k < length s.now }
     ensures { result ≡ prologue_at s.now k }
@@ -177,6 +167,7 @@ fn byte_4_and_4(s: &[u8], j: usize, k: usize) -> u8
 }
 
 // The last byte of an edition's address prologue.
+#[tactic(auto, unfolding(crate::specs::Editions::mark_of))]
 fn mark_of(ed: Edition) -> u8
     ensures is { result ≡ mark_of ed }
     ensures some { 0 < result }
@@ -188,6 +179,7 @@ fn mark_of(ed: Edition) -> u8
 }
 
 // The nibbles of an edition's data field, the sum among them.
+#[tactic(auto, unfolding(crate::specs::Editions::nibbles_of))]
 pub fn nibbles_in(ed: Edition) -> usize
     ensures is { result ≡ nibbles_of ed }
     ensures small { result ≤ 411 }
@@ -199,6 +191,7 @@ pub fn nibbles_in(ed: Edition) -> usize
 }
 
 // The sectors of an edition's track.
+#[tactic(auto, unfolding(crate::specs::Editions::per_track))]
 pub fn per_track(ed: Edition) -> u8
     ensures is { result ≡ per_track ed }
     ensures some { 0 < result }
@@ -231,109 +224,73 @@ pub fn dos_sector(p: u8) -> u8
     order[(p % 15) as usize]
 }
 
-// The place behind the first address prologue from i on, 0 where there is none.
-fn find_address(s: &[u8], i: usize, ed: Edition) -> usize
+// The place behind the first address prologue from i on.
+fn find_address(s: &[u8], i: usize, ed: Edition) -> Option<usize>
     ensures { result ≡ place_after (mark_of ed) s.now i }
 {
     find_prologue(s, i, mark_of(ed))
 }
 
-// No address, or one that is refused.
-fn no_address(number: u8) -> AddressField
-    ensures { result ≡ no_address number }
-{
-    AddressField {
-        refusal: number,
-        volume: 0,
-        track: 0,
-        sector: 0,
-        next: 0,
-    }
-}
-
 // The first address field from place i on; refusal 8.
-pub fn find_and_parse_address_field(s: &[u8], i: usize, ed: Edition) -> AddressField
+pub fn find_and_parse_address_field(
+    s: &[u8],
+    i: usize,
+    ed: Edition,
+) -> Result<Option<AddressField>, Refusal>
     ensures { result ≡ address_from ed s.now i }
 {
-    let j = find_address(s, i, ed);
-    if j == 0 {
-        return no_address(0);
-    }
+    let Some(j) = find_address(s, i, ed) else {
+        return Ok(None);
+    };
     if s.len() - j < 11 {
-        return no_address(0);
+        return Ok(None);
     }
     let volume = byte_4_and_4(s, j, 0);
     let track = byte_4_and_4(s, j, 1);
     let sector = byte_4_and_4(s, j, 2);
     let sum = byte_4_and_4(s, j, 3);
     if sum != volume ^ track ^ sector {
-        return no_address(ADDRESS_SUM);
+        return Err(Refusal::AddressSum);
     }
-    AddressField {
-        refusal: 0,
+    Ok(Some(AddressField {
         volume: volume,
         track: track,
         sector: sector,
         next: j + 11,
-    }
+    }))
 }
 
 // The first data field from place i on.
-pub fn find_and_parse_data_field(s: &[u8], i: usize, ed: Edition) -> DataField
+pub fn find_and_parse_data_field(s: &[u8], i: usize, ed: Edition) -> Option<DataField>
     ensures { result ≡ data_from ed s.now i }
 {
-    let j = find_prologue(s, i, 0xAD);
-    if j == 0 {
-        return DataField {
-            nibbles: 0,
-            next: 0,
-        };
-    }
+    let j = find_prologue(s, i, 0xAD)?;
     let size = nibbles_in(ed) + 3;
     if s.len() - j < size {
-        return DataField {
-            nibbles: 0,
-            next: 0,
-        };
+        return None;
     }
-    DataField {
+    Some(DataField {
         nibbles: j,
         next: j + size,
-    }
-}
-
-// No pair of fields, or one whose address is refused.
-fn no_pair(number: u8) -> FieldPair
-    ensures { result ≡ no_pair number }
-{
-    FieldPair {
-        refusal: number,
-        volume: 0,
-        track: 0,
-        sector: 0,
-        nibbles: 0,
-        next: 0,
-    }
+    })
 }
 
 // The first whole pair of fields from place i on; refusal 8. The next call goes on at `next`.
-pub fn parse_nib_sector(s: &[u8], i: usize, ed: Edition) -> FieldPair
+#[tactic(auto, using(crate::proofs::Scan::pair_bad, crate::proofs::Scan::pair_none, crate::proofs::Scan::pair_cut, crate::proofs::Scan::pair_is))]
+pub fn parse_nib_sector(s: &[u8], i: usize, ed: Edition) -> Result<Option<FieldPair>, Refusal>
     ensures { result ≡ pair_from ed s.now i }
 {
-    let a = find_and_parse_address_field(s, i, ed);
-    if a.next == 0 {
-        return no_pair(a.refusal);
-    }
-    let d = find_and_parse_data_field(s, a.next, ed);
-    if d.next == 0 {
-        return no_pair(0);
-    }
-    FieldPair {
-        refusal: 0,
-        volume: a.volume,
-        track: a.track,
-        sector: a.sector,
-        nibbles: d.nibbles,
-        next: d.next,
-    }
+    let Some(address) = find_and_parse_address_field(s, i, ed)? else {
+        return Ok(None);
+    };
+    let Some(data) = find_and_parse_data_field(s, address.next, ed) else {
+        return Ok(None);
+    };
+    Ok(Some(FieldPair {
+        volume: address.volume,
+        track: address.track,
+        sector: address.sector,
+        nibbles: data.nibbles,
+        next: data.next,
+    }))
 }

@@ -15,8 +15,9 @@ use Rattle.lists.specs.Words.{word_at}
 use Rattle.lists.proofs.Split.{by_test}
 use Rattle.lists.proofs.Chunks.{flat_map_append, length_chunks}
 use Rattle.lists.proofs.Put.{Put, put_is, put_front}
-use Rattle.outcome.specs.declared.Handed.{Handed}
-use Rattle.outcome.specs.Outcome.{Outcome, refused, given, ◌>>=◌, refused_with, accepted_with, Hands}
+use Rattle.std.specs.Prelude.{Ok, Err}
+use Rattle.outcome.specs.declared.Refusal.TheVariants.{TrayShort}
+use Rattle.outcome.specs.Outcome.{Outcome, ◌>>=◌, Hands}
 use Rattle.outcome.proofs.Outcome.{hands_short, hands_over_lem}
 use Rattle.disk.specs.declared.Place.{Place}
 use Rattle.disk.specs.Disk.{place, sectors, on_disk, byte_of, word_of, bytes_of, link_of}
@@ -36,9 +37,9 @@ module _ (n : ℕ) (d : List ℕ) (g : Place → List ℕ) where
   abbrev join_lists : List ℕ → Place → List ℕ
   join_lists = joins (list_of n d g)
 
-  made_bytes : (o : Outcome (List Place)) → made join_lists [] o ≡ (o >>= λ ls. given (flat_map (list_of n d g) ls))
-  made_bytes (refused r) = refl
-  made_bytes (given ls) = ap given (joined_is (list_of n d g) [] ls)
+  made_bytes : (o : Outcome (List Place)) → made join_lists [] o ≡ (o >>= λ ls. Ok (flat_map (list_of n d g) ls))
+  made_bytes (Err r) = refl
+  made_bytes (Ok ls) = ap Ok (joined_is (list_of n d g) [] ls)
 
   module _ (begin : Place) (size : ℕ) (s₀ : Spot) (o₀ : List ℕ) where
     -- k lists are copied, and p is the next
@@ -47,8 +48,8 @@ module _ (n : ℕ) (d : List ℕ) (g : Place → List ℕ) where
       pub count : k ≤ most
       pub done : List ℕ
       pub whole : List ℕ
-      pub total : walk_of n d g begin ≡ given whole
-      pub is : rest join_lists n (sound_list n d) (next_list n d) (35 * n + 1) k done p ≡ given whole
+      pub total : walk_of n d g begin ≡ Ok whole
+      pub is : rest join_lists n (sound_list n d) (next_list n d) (35 * n + 1) k done p ≡ Ok whole
       pub room : Roomy size s₀ o₀
       pub long : length o ≡ length o₀
       pub copied : Copied size done s₀ o₀ o s
@@ -163,33 +164,36 @@ joined_lists n d g (l ∷ ls) =
 
 -- ---- the bytes of a file: h is what its lists come to
 module _ (n : ℕ) (d : List ℕ) (p : Place) (kind : ℕ) (h : Thread) (f : Kept n d p h) (o : List ℕ) where
-  pub thread : h ≡ record { refusal = 0; lists = length f.at.ls; pairs = length (flat_map (pairs_of n d) f.at.ls); head = head_of (flat_map (pairs_of n d) f.at.ls) }
-  thread = f.thread ∙ rw (f.at.is, f.at.on) refl
+  pub thread : h ≡ record { lists = length f.at.ls; pairs = length (flat_map (pairs_of n d) f.at.ls); head = head_of (flat_map (pairs_of n d) f.at.ls) }
+  thread =
+      let q : Ok h ≡ Ok (record { lists = length f.at.ls; pairs = length (flat_map (pairs_of n d) f.at.ls); head = head_of (flat_map (pairs_of n d) f.at.ls) }) =
+      f.thread ∙ rw (f.at.is, f.at.on) refl in
+      cc
 
   -- the bytes are given
-  bytes : file_bytes n d p kind ≡ given (bytes_in kind (flat_map (bytes_of n d) (flat_map (pairs_of n d) f.at.ls)))
+  bytes : file_bytes n d p kind ≡ Ok (bytes_in kind (flat_map (bytes_of n d) (flat_map (pairs_of n d) f.at.ls)))
   unfolding file_bytes
   bytes = rw f.at.is refl
 
   long : size_of n d kind h ≡ length (bytes_in kind (flat_map (bytes_of n d) (flat_map (pairs_of n d) f.at.ls)))
   long = size_is n d f.at.size kind _ h f.at.on (ap (λ (y : Thread). y.pairs) thread) (ap (λ (y : Thread). y.head) thread)
 
-  pub data_short : (m : ℕ) (r : Handed) → m ≡ size_of n d kind h → length o < m → r ≡ refused_with 12 → Hands (file_bytes n d p kind) o o r
-  data_short m r e l q = hands_short (file_bytes n d p kind) o _ bytes (omega (arith, long)) r q
+  pub data_short : (m : ℕ) → m ≡ size_of n d kind h → length o < m → Hands (file_bytes n d p kind) o o (Err TrayShort)
+  data_short m e l = hands_short (file_bytes n d p kind) o _ bytes (omega (arith, long)) (Err TrayShort) refl
 
   pub data_room : (m k : ℕ) → m ≤ length o → Roomy m (record { at = 0; skip = k }) o
   data_room m k l = record { within = omega arith; fits = l }
 
-  walked : walk_bytes n d p ≡ given (flat_map (bytes_of n d) (flat_map (pairs_of n d) f.at.ls))
+  walked : walk_bytes n d p ≡ Ok (flat_map (bytes_of n d) (flat_map (pairs_of n d) f.at.ls))
   unfolding walk_of
-  walked = rw f.at.is (ap given (joined_lists n d (bytes_of n d) f.at.ls))
+  walked = rw f.at.is (ap Ok (joined_lists n d (bytes_of n d) f.at.ls))
 
   pub data_whole : Whole (walk_bytes n d p)
   data_whole = record { whole = flat_map (bytes_of n d) (flat_map (pairs_of n d) f.at.ls); is = walked }
 
-  pub data_done : (m k : ℕ) (o' : List ℕ) (r : Handed) (s : Spot) → m ≡ size_of n d kind h → m ≤ length o → k ≡ start_of n d kind h
-      → CopiedAll m (walk_bytes n d p) (record { at = 0; skip = k }) o o' s → r ≡ accepted_with m → Hands (file_bytes n d p kind) o o' r
-  data_done m k o' r s₁ e l q c z =
+  pub data_done : (m k : ℕ) (o' : List ℕ) (s : Spot) → m ≡ size_of n d kind h → m ≤ length o → k ≡ start_of n d kind h
+      → CopiedAll m (walk_bytes n d p) (record { at = 0; skip = k }) o o' s → Hands (file_bytes n d p kind) o o' (Ok m)
+  data_done m k o' s₁ e l q c =
       let x : List ℕ = bytes_in kind (flat_map (bytes_of n d) (flat_map (pairs_of n d) f.at.ls)) in
       let a : o' ≡ put 0 (cut_of (m - 0) k (flat_map (bytes_of n d) (flat_map (pairs_of n d) f.at.ls))) o = (c.is _ walked).puts in
       let b : m - 0 ≡ size_of n d kind h = omega arith in
@@ -197,6 +201,6 @@ module _ (n : ℕ) (d : List ℕ) (p : Place) (kind : ℕ) (h : Thread) (f : Kep
       rw (b, q) (cut_is n d f.at.size kind _ h f.at.on (ap (λ (y : Thread). y.pairs) thread) (ap (λ (y : Thread). y.head) thread)) in
       let s : length x ≡ m = sym (e ∙ long) in
       let w : Put 0 x o o' = put_is (a ∙ ap (λ (y : List ℕ). put 0 y o) i) (omega arith) in
-      hands_over_lem (file_bytes n d p kind) o o' x bytes (omega arith) (put_front w) r (rw s z)
+      hands_over_lem (file_bytes n d p kind) o o' x bytes (omega arith) (put_front w) (Ok m) (rw s refl)
 
 pub ruleset datas = (data_short, data_room, data_whole, data_done, rules)

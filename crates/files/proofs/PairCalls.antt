@@ -12,9 +12,9 @@ use borrow.Author.Rules.{rules}
 use Rattle.lists.specs.Fill.{placed}
 use Rattle.lists.proofs.Split.{by_test}
 use Rattle.lists.proofs.Put.{Put, placed_put, put_front}
-use Rattle.outcome.specs.declared.Handed.{Handed}
-use Rattle.outcome.specs.declared.Refusal.TheVariants.{OffSize, OffDisc}
-use Rattle.outcome.specs.Outcome.{given, refused_with, accepted_with, Hands}
+use Rattle.std.specs.Prelude.{Ok, Err}
+use Rattle.outcome.specs.declared.Refusal.TheVariants.{OffSize, OffDisc, TrayShort}
+use Rattle.outcome.specs.Outcome.{Outcome, Hands}
 use Rattle.outcome.proofs.Outcome.{hands_refused, hands_short, hands_over_lem}
 use Rattle.disk.specs.declared.Place.{Place}
 use Rattle.disk.specs.Disk.{sectors, per_of, start, on_disk, sized}
@@ -55,18 +55,18 @@ length_two (p ∷ ps) = let i = length_two ps in omega arith
 
 -- ---- the call
 module _ (per : ℕ) (d : List ℕ) (p : Place) (o : List ℕ) where
-  pub pairs_size : (h : Handed) → (length d ≡ 256 * sectors per → ⊥) → h ≡ refused_with 1 → Hands (pair_bytes per d p) o o h
+  pub pairs_size : (length d ≡ 256 * sectors per → ⊥) → Hands (pair_bytes per d p) o o (Err OffSize)
   unfolding pair_bytes pairs_at sized
-  pairs_size h m e = hands_refused (pair_bytes per d p) o OffSize (rw (ne_eqb _ _ m) refl) h e
+  pairs_size m = hands_refused (pair_bytes per d p) o OffSize (rw (ne_eqb _ _ m) refl) (Err OffSize) refl
 
   module _ (l : length d ≡ 256 * sectors per) (on : Bool) (w : on ≡ on_disk per p) where
-    pub pairs_off : (h : Handed) → on ≡ false → h ≡ refused_with 3 → Hands (pair_bytes per d p) o o h
+    pub pairs_off : on ≡ false → Hands (pair_bytes per d p) o o (Err OffDisc)
     unfolding pair_bytes pairs_at sized
-    pairs_off h z e = hands_refused (pair_bytes per d p) o OffDisc (rw (eq-eqb _ _ l, ← w, z) refl) h e
+    pairs_off z = hands_refused (pair_bytes per d p) o OffDisc (rw (eq-eqb _ _ l, ← w, z) refl) (Err OffDisc) refl
 
     module _ (z : on ≡ true) (r : PairRun) (u : r ≡ run_of per d p) where
       -- the bytes
-      gives : pair_bytes per d p ≡ given (flat_map place_bytes (pairs_of per d p))
+      gives : pair_bytes per d p ≡ Ok (flat_map place_bytes (pairs_of per d p))
       unfolding pair_bytes pairs_at sized
       gives = rw (eq-eqb _ _ l, ← w, z) refl
 
@@ -79,19 +79,19 @@ module _ (per : ℕ) (d : List ℕ) (p : Place) (o : List ℕ) where
       long : length (flat_map place_bytes (pairs_of per d p)) ≡ 2 * r.count
       long = rw counts (length_two (pairs_of per d p))
 
-      pub pairs_short : (h : Handed) → length o < 2 * r.count → h ≡ refused_with 12 → Hands (pair_bytes per d p) o o h
-      pairs_short h m e = hands_short (pair_bytes per d p) o (flat_map place_bytes (pairs_of per d p)) gives (rw long m) h e
+      pub pairs_short : length o < 2 * r.count → Hands (pair_bytes per d p) o o (Err TrayShort)
+      pairs_short m = hands_short (pair_bytes per d p) o (flat_map place_bytes (pairs_of per d p)) gives (rw long m) (Err TrayShort) refl
 
-      pub pairs_done : (h : Handed) (b : ℕ) (y o' : List ℕ) → b ≡ start per p → 2 * r.count ≤ length o → y ≡ take (2 * r.count) (drop (b + 12) d)
-          → o' ≡ placed 0 y o → h ≡ accepted_with (2 * r.count) → Hands (pair_bytes per d p) o o' h
-      pairs_done h b y o' q m f g e =
+      pub pairs_done : (b : ℕ) (y o' : List ℕ) → b ≡ start per p → 2 * r.count ≤ length o → y ≡ take (2 * r.count) (drop (b + 12) d)
+          → o' ≡ placed 0 y o → Hands (pair_bytes per d p) o o' (Ok (2 * r.count))
+      pairs_done b y o' q m f g =
           let x : List ℕ = flat_map place_bytes (pairs_of per d p) in
           let k : y ≡ x = f ∙ rw (q, counts) (sym (pairs_row per d p inside)) in
           let t : Put 0 x o o' = placed_put (rw k at g) (omega (arith, long)) in
-          hands_over_lem (pair_bytes per d p) o o' x gives (omega (arith, long)) (put_front t) h (rw long e)
+          hands_over_lem (pair_bytes per d p) o o' x gives (omega (arith, long)) (put_front t) (Ok (2 * r.count)) (rw long refl)
 
 -- by the disk's own size
-pub pairs_per : (d o o' : List ℕ) (r : Handed) (p : Place) (n : ℕ) → n ≡ per_of d → Hands (pair_bytes n d p) o o' r → Hands (pair_bytes (per_of d) d p) o o' r
+pub pairs_per : (d o o' : List ℕ) (r : Outcome ℕ) (p : Place) (n : ℕ) → n ≡ per_of d → Hands (pair_bytes n d p) o o' r → Hands (pair_bytes (per_of d) d p) o o' r
 pairs_per d o o' r p n e q = rw e at q
 
 pub ruleset pair_calls = (pairs_per, pairs_size, pairs_off, pairs_short, pairs_done, not-true, not-false, rules)

@@ -10,9 +10,9 @@ use borrow.Author.Tests.{eq-eqb, ne_eqb, not-true, not-false}
 use borrow.Author.Rules.{rules}
 use Rattle.lists.specs.Select.{all, take_while}
 use Rattle.lists.proofs.Chunks.{flat_map_append, flat_map_one}
+use Rattle.std.specs.Prelude.{Ok, Err}
 use Rattle.outcome.specs.declared.Refusal.TheVariants.{OffDisc, Ring, CutLink}
-use Rattle.outcome.specs.Refusal.{code}
-use Rattle.outcome.specs.Outcome.{Outcome, refused, given, ◌>>=◌}
+use Rattle.outcome.specs.Outcome.{Outcome, ◌>>=◌}
 use Rattle.disk.specs.Chain.{walk}
 use Rattle.disk.proofs.Steps.{made, rest, rest_start, rest_full, rest_off, rest_bad, rest_end, rest_more}
 use Rattle.files.specs.declared.Thread.{Thread}
@@ -22,7 +22,7 @@ use Rattle.disk.specs.declared.Place.{Place}
 use Rattle.disk.specs.Disk.{place, on_disk, byte_of, link_of}
 use Rattle.files.specs.declared.PairRun.{PairRun}
 use Rattle.files.specs.Contents.{max_pairs, is_pair, pair_at, pairs_of, whole_link, sound_list, next_list, list_walk}
-use Rattle.files.specs.Threads.{head_of, no_thread, end_thread, run_of, followed}
+use Rattle.files.specs.Threads.{head_of, end_thread, run_of, followed}
 
 -- ---- the pairs of a list
 pub pair_is : (n : ℕ) (d : List ℕ) (p : Place) (i t s : ℕ) → t ≡ byte_of n d p (12 + 2 * i) → s ≡ byte_of n d p (13 + 2 * i) → place t s ≡ pair_at n d p i
@@ -118,17 +118,14 @@ module _ (n : ℕ) (d : List ℕ) (p : Place) (t : ℕ) (e : t ≡ byte_of n d p
   link_ends = rw e refl
 
 -- ---- the end of a chain
-pub no_thread_is : (k : ℕ) (h : Place) → h ≡ place 0 0 → record { refusal = k; lists = 0; pairs = 0; head = h } ≡ no_thread k
-no_thread_is k h e = rw e refl
-
 module _ (k m : ℕ) (good : Bool) (head : Place) where
-  pub end_good : good ≡ true → record { refusal = 0; lists = k; pairs = m; head = head } ≡ end_thread k m good head
+  pub end_good : good ≡ true → Ok (record { lists = k; pairs = m; head = head }) ≡ end_thread k m good head
   end_good e = rw e refl
 
-  pub end_bad : good ≡ false → (t : Thread) → t ≡ no_thread 3 → t ≡ end_thread k m good head
-  end_bad e t q = rw e q
+  pub end_bad : good ≡ false → Err OffDisc ≡ end_thread k m good head
+  end_bad h = rw h refl
 
-pub ruleset heads = (link_ends, no_thread_is, end_good, end_bad, head_none, head_some, head_first, head_kept, link_last, link_whole, rules)
+pub ruleset heads = (link_ends, end_good, end_bad, head_none, head_some, head_first, head_kept, link_last, link_whole, rules)
 
 -- ---- a chain of lists
 -- what is known after some lists
@@ -176,24 +173,23 @@ module _ (n : ℕ) (d : List ℕ) where
       ap (λ (s : Run). foldl step s ms) (step_is ls p) ∙ steps_are (ls ++ (p ∷ [])) ms ∙ ap run_for (append_assoc ls (p ∷ []) ms)
 
   -- the answer for a run
-  abbrev pub thread_from : Outcome Run → Thread
-  thread_from (refused r) = no_thread (code r)
-  thread_from (given s) = end_thread s.lists s.pairs s.good s.head
+  abbrev pub thread_from : Outcome Run → Outcome Thread
+  thread_from o = o >>= λ s. end_thread s.lists s.pairs s.good s.head
 
   unfoldable pub walk_run : Place → Outcome Run
-  walk_run p = list_walk n d p >>= λ ls. given (run_for ls)
+  walk_run p = list_walk n d p >>= λ ls. Ok (run_for ls)
 
-  run_thread : (o : Outcome (List Place)) → thread_from (o >>= λ ls. given (run_for ls)) ≡ followed n d o
-  run_thread (refused r) = refl
-  run_thread (given ls) = refl
+  run_thread : (o : Outcome (List Place)) → thread_from (o >>= λ ls. Ok (run_for ls)) ≡ followed n d o
+  run_thread (Err r) = refl
+  run_thread (Ok ls) = refl
 
-  made_run : (o : Outcome (List Place)) → made step (run 0 0 true (place 0 0)) o ≡ (o >>= λ ls. given (run_for ls))
+  made_run : (o : Outcome (List Place)) → made step (run 0 0 true (place 0 0)) o ≡ (o >>= λ ls. Ok (run_for ls))
   unfolding all flat_map
-  made_run (refused r) = refl
-  made_run (given ls) = ap given (steps_are [] ls)
+  made_run (Err r) = refl
+  made_run (Ok ls) = ap Ok (steps_are [] ls)
 
   module _ (first : Place) where
-    abbrev Goal : Thread → Type 0
+    abbrev Goal : Outcome Thread → Type 0
     Goal t = t ≡ followed n d (list_walk n d first)
 
     -- k lists with m pairs were read, and p is the next
@@ -217,45 +213,45 @@ module _ (n : ℕ) (d : List ℕ) where
         }
 
     -- the walk's end, as the answer
-    answer : (t : Thread) (o : Outcome Run) → o ≡ walk_run first → t ≡ thread_from o → Goal t
+    answer : (t : Outcome Thread) (o : Outcome Run) → o ≡ walk_run first → t ≡ thread_from o → Goal t
     unfolding walk_run
     answer t o e q = q ∙ ap thread_from e ∙ run_thread (list_walk n d first)
 
-    module _ (most k m : ℕ) (good : Bool) (head p : Place) (c : Following most k m good head p) (t : Thread) where
-      pub follow_ring : most ≤ k → t ≡ no_thread 4 → Goal t
-      follow_ring h q =
-          answer t (refused Ring) (sym (rest_full step n (sound_list n d) (next_list n d) (35 * n + 1) k (run k m good head) p (omega (arith, c.budget))) ∙ c.is) q
+    module _ (most k m : ℕ) (good : Bool) (head p : Place) (c : Following most k m good head p) where
+      pub follow_ring : most ≤ k → Goal (Err Ring)
+      follow_ring h =
+          answer (Err Ring) (Err Ring) (sym (rest_full step n (sound_list n d) (next_list n d) (35 * n + 1) k (run k m good head) p (omega (arith, c.budget))) ∙ c.is) refl
 
       module _ (h : k < most) (on : Bool) (o : on ≡ on_disk n p) where
         inside : k < 35 * n + 1
         inside = omega (arith, c.budget)
 
-        pub follow_off : on ≡ false → t ≡ no_thread 3 → Goal t
-        follow_off z q =
-            answer t (refused OffDisc) (sym (rest_off step n (sound_list n d) (next_list n d) (35 * n + 1) k (run k m good head) p inside (sym o ∙ z)) ∙ c.is) q
+        pub follow_off : on ≡ false → Goal (Err OffDisc)
+        follow_off z =
+            answer (Err OffDisc) (Err OffDisc) (sym (rest_off step n (sound_list n d) (next_list n d) (35 * n + 1) k (run k m good head) p inside (sym o ∙ z)) ∙ c.is) refl
 
-        pub follow_cut : on ≡ true → (b : Bool) → b ≡ whole_link n d p → b ≡ false → t ≡ no_thread 5 → Goal t
+        pub follow_cut : on ≡ true → (b : Bool) → b ≡ whole_link n d p → b ≡ false → Goal (Err CutLink)
         unfolding sound_list
-        follow_cut y b w z q =
-            answer t (refused CutLink)
-            (sym (rest_bad step n (sound_list n d) (next_list n d) (35 * n + 1) k (run k m good head) p inside CutLink (sym o ∙ y) (rw (← w, z) refl)) ∙ c.is) q
+        follow_cut y b w z =
+            answer (Err CutLink) (Err CutLink)
+            (sym (rest_bad step n (sound_list n d) (next_list n d) (35 * n + 1) k (run k m good head) p inside CutLink (sym o ∙ y) (rw (← w, z) refl)) ∙ c.is) refl
 
     module _ (most k m : ℕ) (good : Bool) (head p : Place) (c : Following most k m good head p) (h : k < most) (on : Bool) (o : on ≡ on_disk n p) (y : on ≡ true)
         (b : Bool) (w : b ≡ whole_link n d p) (z : b ≡ true) (r : PairRun) (u : r ≡ run_of n d p) (few : r.count ≤ max_pairs)
         (a : Place) (v : a ≡ cond (eqb m 0) (head_of (pairs_of n d p)) head) (l : Bool) (e : l ≡ eqb (byte_of n d p 1) 0) where
-      sound : sound_list n d p ≡ given tt
+      sound : sound_list n d p ≡ Ok tt
       unfolding sound_list
       sound = rw (← w, z) refl
 
       stepped : run (k + 1) (m + r.count) (good && r.good) a ≡ step (run k m good head) p
       stepped = rw (u, v) refl
 
-      pub follow_last : l ≡ true → (t : Thread) → t ≡ end_thread (k + 1) (m + r.count) (good && r.good) a → Goal t
+      pub follow_last : l ≡ true → (t : Outcome Thread) → t ≡ end_thread (k + 1) (m + r.count) (good && r.good) a → Goal t
       unfolding next_list
       follow_last x t q =
-          answer t (given (step (run k m good head) p))
+          answer t (Ok (step (run k m good head) p))
           (sym (rest_end step n (sound_list n d) (next_list n d) (35 * n + 1) k (run k m good head) p (omega (arith, c.budget)) (sym o ∙ y, sound) (rw (← e, x) refl)) ∙ c.is)
-          (q ∙ ap (λ (s : Run). thread_from (given s)) stepped)
+          (q ∙ ap (λ (s : Run). thread_from (Ok s)) stepped)
 
       pub follow_more : l ≡ false → (s : Place) → s ≡ link_of n d p → Following most (k + 1) (m + r.count) (good && r.good) a s
       unfolding next_list

@@ -12,8 +12,9 @@ use Rattle.disk.specs.declared.Place.{Place}
 use Rattle.disk.specs.Disk.{sectors}
 use Rattle.disk.specs.Percent.{Nearest}
 use Rattle.disk.proofs.Percent.{percent_small, rounding}
+use Rattle.std.specs.Prelude.{Ok, Err}
 use Rattle.outcome.specs.declared.Refusal.{Refusal}
-use Rattle.outcome.specs.Outcome.{Outcome, refused, given, each}
+use Rattle.outcome.specs.Outcome.{Outcome, each}
 use Rattle.outcome.proofs.Outcome.{gives, refused_given, each_all, each_also, length_each}
 use Rattle.catalog.specs.Catalog.{Entry, catalog, pages}
 use Rattle.catalog.proofs.Order.{catalog_given, pages_short}
@@ -21,7 +22,8 @@ use Rattle.files.specs.Contents.{File, Contents, contents, lists, file_of}
 use Rattle.files.proofs.Order.{contents_given, file_given, lists_short}
 use Rattle.files.proofs.Proper.{all_short}
 use Rattle.files.specs.Survey.{blocks_in}
-use Rattle.files.specs.Survey.{Survey, survey_of, survey, sum_of}
+use Rattle.files.specs.declared.DiskSurvey.{DiskSurvey}
+use Rattle.files.specs.Survey.{survey_of, survey, sum_of}
 
 -- a sum of numbers that are at most m
 sum_small : (m : ℕ) (l : List (List Place)) → Every (λ (ps : List Place). length ps ≤ m) l → sum_of (map length l) ≤ m * length l
@@ -37,14 +39,14 @@ blocks_small (f ∷ fs) (Every.more h a) = let i = blocks_small fs a in omega ar
 
 module _ (n : ℕ) (d : List ℕ) where
   -- what the contents refuse, the survey does
-  pub contents_refuse : (r : Refusal) → contents n d ≡ refused r → survey n d ≡ refused r
+  pub contents_refuse : (r : Refusal) → contents n d ≡ Err r → survey n d ≡ Err r
   unfolding survey
   contents_refuse r h = rw h refl
 
   -- a survey has such parts
-  pub survey_given : (s : Survey) → survey n d ≡ given s
-      → (c : Contents) × (ps : List Place) × (es : List Entry) × (ls : List (List Place)) × (contents n d ≡ given c) × (pages n d ≡ given ps)
-      × (catalog n d ≡ given es) × (each (lists n d) es ≡ given ls) × (s ≡ survey_of n d c ps es ls)
+  pub survey_given : (s : DiskSurvey) → survey n d ≡ Ok s
+      → (c : Contents) × (ps : List Place) × (es : List Entry) × (ls : List (List Place)) × (contents n d ≡ Ok c) × (pages n d ≡ Ok ps)
+      × (catalog n d ≡ Ok es) × (each (lists n d) es ≡ Ok ls) × (s ≡ survey_of n d c ps es ls)
   unfolding survey
   survey_given s h =
       let a = gives (contents n d) _ s h in
@@ -55,13 +57,13 @@ module _ (n : ℕ) (d : List ℕ) where
       (a.0, b.0, c.0, e.0, a.1, b.1, c.1, e.1, cc)
 
   -- .. and such parts make it
-  pub survey_is : (c : Contents) (ps : List Place) (es : List Entry) (ls : List (List Place)) → contents n d ≡ given c → pages n d ≡ given ps
-      → catalog n d ≡ given es → each (lists n d) es ≡ given ls → survey n d ≡ given (survey_of n d c ps es ls)
+  pub survey_is : (c : Contents) (ps : List Place) (es : List Entry) (ls : List (List Place)) → contents n d ≡ Ok c → pages n d ≡ Ok ps
+      → catalog n d ≡ Ok es → each (lists n d) es ≡ Ok ls → survey n d ≡ Ok (survey_of n d c ps es ls)
   unfolding survey
   survey_is c ps es ls a b e l = rw (a, b, e, l) refl
 
   -- where the contents are read, so is the survey
-  pub survey_gives : (c : Contents) → contents n d ≡ given c → (s : Survey) × (survey n d ≡ given s)
+  pub survey_gives : (c : Contents) → contents n d ≡ Ok c → (s : DiskSurvey) × (survey n d ≡ Ok s)
   survey_gives c h =
       let g = contents_given n d c h in
       let p = catalog_given n d g.0 g.1 in
@@ -69,15 +71,15 @@ module _ (n : ℕ) (d : List ℕ) where
       (survey_of n d c p.0 g.0 l.0, survey_is c p.0 g.0 l.0 h p.1 g.1 l.1)
 
   -- .. so it refuses as they do
-  pub survey_refused : (r : Refusal) → survey n d ≡ refused r → contents n d ≡ refused r
+  pub survey_refused : (r : Refusal) → survey n d ≡ Err r → contents n d ≡ Err r
   survey_refused r h = go (contents n d) refl
     where
-      go : (o : Outcome Contents) → contents n d ≡ o → contents n d ≡ refused r
-      go (refused q) e = let y : survey n d ≡ refused q = contents_refuse q e in e ∙ (cc)
-      go (given c) e = let g = survey_gives c e in absurd (refused_given (sym h ∙ g.1))
+      go : (o : Outcome Contents) → contents n d ≡ o → contents n d ≡ Err r
+      go (Err q) e = let y : survey n d ≡ Err q = contents_refuse q e in e ∙ (cc)
+      go (Ok c) e = let g = survey_gives c e in absurd (refused_given (sym h ∙ g.1))
 
   -- at most 35 n links for the catalog and for each entry
-  pub links_bound : (s : Survey) → survey n d ≡ given s → s.links ≤ sectors n * (s.entries + 1)
+  pub links_bound : (s : DiskSurvey) → survey n d ≡ Ok s → s.links ≤ sectors n * (s.entries + 1)
   links_bound s h =
       let t = survey_given s h in
       let p = pages_short n d t.1 t.5 in
@@ -86,15 +88,15 @@ module _ (n : ℕ) (d : List ℕ) where
       rw t.8 (rw (add-one, mul-suc, ← q) (omega arith))
 
   -- the fill
-  pub percent_bound : (s : Survey) → survey n d ≡ given s → s.percent_used ≤ 100
+  pub percent_bound : (s : DiskSurvey) → survey n d ≡ Ok s → s.percent_used ≤ 100
   percent_bound s h = let t = survey_given s h in rw t.8 (percent_small (sectors n) _ (omega arith))
 
   -- .. which is the nearest number (Req 04)
-  pub percent_near : 0 < n → (s : Survey) → survey n d ≡ given s → Nearest (sectors n) s.used s.percent_used
+  pub percent_near : 0 < n → (s : DiskSurvey) → survey n d ≡ Ok s → Nearest (sectors n) s.used s.percent_used
   percent_near some s h = let t = survey_given s h in rw t.8 (rounding.nearest (sectors n) _ (omega arith))
 
   -- the archive, where the disk is one of bytes
-  pub blocks_bound : Bytes d → (s : Survey) → survey n d ≡ given s → s.archive_blocks ≤ 260 * s.entries + 1
+  pub blocks_bound : Bytes d → (s : DiskSurvey) → survey n d ≡ Ok s → s.archive_blocks ≤ 260 * s.entries + 1
   blocks_bound bytes s h =
       let t = survey_given s h in
       let g = contents_given n d t.0 t.4 in

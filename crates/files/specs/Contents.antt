@@ -6,8 +6,9 @@ use Rattle.std.proofs.Math.Option.{Option, none, some}
 use Rattle.lists.specs.Fill.{Bytes, below}
 use Rattle.lists.specs.Select.{all, take_while}
 use Rattle.lists.specs.Words.{word_at}
+use Rattle.std.specs.Prelude.{Ok}
 use Rattle.outcome.specs.declared.Refusal.TheVariants.{OffDisc, CutLink}
-use Rattle.outcome.specs.Outcome.{Outcome, given, ◌>>=◌, ◌>>◌, require, each}
+use Rattle.outcome.specs.Outcome.{Outcome, ◌>>=◌, ◌>>◌, require, each}
 use Rattle.disk.specs.declared.Place.{Place}
 use Rattle.disk.specs.Disk.{place, byte_of, link_of, bytes_of, on_disk, sectors, sized}
 use Rattle.disk.specs.Vtoc.{vtoc}
@@ -90,7 +91,7 @@ module _ (n : ℕ) (d : List ℕ) where
   file_of e =
       lists e >>= λ ls.
       require (all (on_disk n) (flat_map pairs_of ls)) OffDisc >>
-      given
+      Ok
       (record {
         kind = e.kind;
         locked = e.locked;
@@ -101,12 +102,12 @@ module _ (n : ℕ) (d : List ℕ) where
 
   -- the disk's contents: 1, 2, the pages, then entry by entry its file
   unfoldable pub contents : Outcome Contents
-  contents = catalog n d >>= λ es. each file_of es >>= λ fs. given (record { volume = byte_of n d vtoc 6; files = fs })
+  contents = catalog n d >>= λ es. each file_of es >>= λ fs. Ok (record { volume = byte_of n d vtoc 6; files = fs })
 
   -- the pairs of one list, asked for by its location: 1, 3; the pairs are not followed
   unfoldable pub pairs_at : Place → Outcome (List Place)
-  pairs_at p = sized n d >> require (on_disk n p) OffDisc >> given (pairs_of p)
+  pairs_at p = sized n d >> require (on_disk n p) OffDisc >> Ok (pairs_of p)
 
   -- .. as bytes: track and sector of each
   unfoldable pub pair_bytes : Place → Outcome (List ℕ)
-  pair_bytes p = pairs_at p >>= λ ps. given (flat_map place_bytes ps)
+  pair_bytes p = pairs_at p >>= λ ps. Ok (flat_map place_bytes ps)

@@ -2,31 +2,28 @@
 #![tactic(auto)]
 
 ghost use Rattle.std.specs.Prelude.{◌≡◌, ℕ, ◌+◌, ◌-◌, ◌*◌, ◌<◌, ◌≤◌, cond, eqb, take};
-ghost use Rattle.outcome.specs.Outcome.{Hands, left_by};
+ghost use Rattle.outcome.specs.Outcome.{Hands, Gives, left_by};
 ghost use Rattle.catalog.specs.Listing.{Ready};
 ghost use Rattle.catalog.specs.Catalog.{shown, entry_from};
 ghost use Rattle.disk.specs.Disk.{per_of, place, byte_of, bytes_of};
 ghost use Rattle.files.specs.Contents.{max_pairs, pair_at, pairs_of, whole_link, list_walk, pair_bytes};
 ghost use Rattle.lists.specs.Same.{same};
-ghost use Rattle.files.specs.Totals.{choice, no_choice, none_yet, no_totals, totaled, walk_totals, totals, with_link, Within, Bounded, Joined, Entered, Added, Linked, Ranged, Paged};
-ghost use Rattle.files.specs.Survey.{survey, no_survey, surveyed, fetched};
+ghost use Rattle.files.specs.Totals.{picked, choice, none_yet, with_link, walk_totals, totals, Within, Joined, Added, Paged, Turned};
+ghost use Rattle.files.specs.Survey.{survey, fetched};
 ghost use Rattle.files.specs.Copies.{Copied, Roomy, Whole, CopiedAll, Kept, list_bytes, walk_bytes, file_bytes, start_of};
 ghost use Rattle.files.specs.Chosen.{walk_places, file_of_number, lists_of_number};
-ghost use Rattle.files.specs.Threads.{head_of, no_thread, end_thread, run_of, followed, size_of};
+ghost use Rattle.files.specs.Threads.{head_of, end_thread, run_of, followed, size_of};
 
 use catalog::{
     Name, entry_list, entry_start, entry_type, first_page, last_page, parse_file_entry, plain_page,
     valid_file,
 };
 use disk::{
-    Place, Sector, Track, byte_of, chain_budget, link_of, on_disk, sector_start, sectors_of,
-    table_of, table_refusal,
+    Place, Sector, Track, byte_of, chain_budget, link_of, on_disk, readable, sector_start,
+    sectors_of, table_of,
 };
 use lists::{byte_at, copy_at, part, same};
-use outcome::{
-    BAD_LETTER, CUT_LINK, Handed, NOT_ON_ROLL, OFF_DISC, OFF_SIZE, RING, TRAY_SHORT, accepted,
-    refused,
-};
+use outcome::Refusal;
 
 // The pairs that a list can have.
 pub const MAX_PAIRS: u8 = 122;
@@ -35,44 +32,47 @@ pub const MAX_PAIRS: u8 = 122;
 pub const PAIR_BYTES: usize = 2 * MAX_PAIRS as usize;
 
 // The pairs of one list: how many, and whether all are on the disk.
-#[derive(Clone, Copy)]
+#[derive(Clone, Copy, Debug, PartialEq, Eq)]
 pub struct PairRun {
     pub count: u8,
     pub good: bool,
 }
 
-// A chain of lists: how many lists and pairs, and the first pair; or a refusal.
-#[derive(Clone, Copy)]
+// A chain of lists: how many lists and pairs, and the first pair.
+#[derive(Clone, Copy, Debug, PartialEq, Eq)]
 pub struct Thread {
-    pub refusal: u8,
     pub lists: u16,
     pub pairs: u32,
     pub head: Place,
 }
 
-// An entry that was asked for: its first list, its type, and what its lists come to.
+// The entry that a pass over the catalog is to choose: the last of a shown name, or one by its number, from 0.
 #[derive(Clone, Copy)]
+pub enum Wanted<'a> {
+    Named(&'a [u8]),
+    Numbered(u64),
+}
+
+// An entry that was asked for: its first list, its type, and what its lists come to.
+#[derive(Clone, Copy, Debug, PartialEq, Eq)]
 pub struct Choice {
-    pub found: bool,
     pub list: Place,
     pub kind: u8,
     pub thread: Thread,
 }
 
-// What a pass over the catalog comes to: the first refusal, or the number of entries, of lists, of archive blocks, and the entry asked for.
-#[derive(Clone, Copy)]
+// What a pass over the catalog comes to: the number of entries, of lists, of archive blocks, and the entry asked for.
+#[derive(Clone, Copy, Debug, PartialEq, Eq)]
 pub struct Totals {
-    pub refusal: u8,
     pub entries: u32,
     pub links: u64,
     pub blocks: u64,
-    pub choice: Choice,
+    pub choice: Option<Choice>,
 }
 
-// The numbers of a survey, or a refusal.
-#[derive(Clone, Copy)]
+// The numbers of a survey.
+#[derive(Clone, Copy, Debug, PartialEq, Eq)]
 pub struct DiskSurvey {
-    pub refusal: u8,
     pub volume: u8,
     pub entries: u32,
     pub free: u32,
@@ -83,7 +83,7 @@ pub struct DiskSurvey {
 }
 
 // How far a copy has come: the place for the next byte, and how many bytes are still to be passed over.
-#[derive(Clone, Copy)]
+#[derive(Clone, Copy, Debug, PartialEq, Eq)]
 pub struct Spot {
     pub at: usize,
     pub skip: usize,
@@ -115,22 +115,17 @@ pub fn parse_track_sector_list(disk: &[u8], per: u8, p: Place) -> PairRun
     ensures is { result ≡ run_of per disk.now p }
     ensures few { result.count ≤ max_pairs }
 {
-    let mut i: u8 = 0;
     let mut good = true;
-    while i < MAX_PAIRS {
+    for i in 0..MAX_PAIRS {
         let q = parse_track_sector_pair(disk, per, p, i);
         if q.track.0 == 0 {
-            return PairRun {
-                count: i,
-                good: good,
-            };
+            return PairRun { count: i, good };
         }
         good = good & on_disk(per, q);
-        i += 1;
     }
     PairRun {
-        count: i,
-        good: good,
+        count: MAX_PAIRS,
+        good,
     }
 }
 
@@ -156,13 +151,11 @@ fn head_with(disk: &[u8], per: u8, head: Place, m: u32, p: Place) -> Place
 }
 
 // The link of a list ends the chain, or has a sector.
+#[tactic(auto, unfolding(crate::specs::Contents::whole_link))]
 pub fn whole_link(disk: &[u8], per: u8, p: Place) -> bool
     ensures { result ≡ whole_link per disk.now p }
 {
-    if byte_of(disk, per, p, 1) == 0 {
-        return true;
-    }
-    byte_of(disk, per, p, 2) != 0
+    byte_of(disk, per, p, 1) == 0 || byte_of(disk, per, p, 2) != 0
 }
 
 // A list whose link has track zero is the last.
@@ -172,63 +165,42 @@ pub fn last_list(disk: &[u8], per: u8, p: Place) -> bool
     byte_of(disk, per, p, 1) == 0
 }
 
-// A refusal: no lists, no pairs.
-fn no_thread(number: u8) -> Thread
-    ensures { result ≡ no_thread number }
-{
-    Thread {
-        refusal: number,
-        lists: 0,
-        pairs: 0,
-        head: no_place(),
-    }
-}
-
 // The end of a chain: 3 where a pair is not on the disk.
-fn end_thread(k: u16, m: u32, good: bool, head: Place) -> Thread
-    ensures { result ≡ end_thread k m good head }
+fn end_thread(lists: u16, pairs: u32, good: bool, head: Place) -> Result<Thread, Refusal>
+    ensures { result ≡ end_thread lists pairs good head }
 {
-    if good {
-        return Thread {
-            refusal: 0,
-            lists: k,
-            pairs: m,
-            head: head,
-        };
+    if !good {
+        return Err(Refusal::OffDisc);
     }
-    no_thread(OFF_DISC)
+    Ok(Thread { lists, pairs, head })
 }
 
 // The lists from `first` on: at each link 5, 3, 4, and then 3 for their pairs.
-pub fn build_file(disk: &[u8], per: u8, first: Place) -> Thread
+pub fn build_file(disk: &[u8], per: u8, first: Place) -> Result<Thread, Refusal>
     ensures { result ≡ followed per disk.now (list_walk per disk.now first) }
 {
     let most = chain_budget(per);
     let mut p = first;
-    let mut k: u16 = 0;
     let mut m: u32 = 0;
     let mut good = true;
     let mut head = no_place();
-    loop {
-        if most <= k {
-            return no_thread(RING);
-        }
+    for k in 0..most {
         if !on_disk(per, p) {
-            return no_thread(OFF_DISC);
+            return Err(Refusal::OffDisc);
         }
         if !whole_link(disk, per, p) {
-            return no_thread(CUT_LINK);
+            return Err(Refusal::CutLink);
         }
         let run = parse_track_sector_list(disk, per, p);
         head = head_with(disk, per, head, m, p);
-        k += 1;
         m += run.count as u32;
         good = good & run.good;
         if last_list(disk, per, p) {
-            return end_thread(k, m, good, head);
+            return end_thread(k + 1, m, good, head);
         }
         p = link_of(disk, per, p);
     }
+    Err(Refusal::Ring)
 }
 
 // How many bytes a file has: of a Binary the stated length where that fits, else all; of other types none.
@@ -250,30 +222,6 @@ fn file_size(disk: &[u8], per: u8, kind: u8, t: Thread) -> u32
     total as u32
 }
 
-// A refusal: zeros.
-fn no_totals(number: u8) -> Totals
-    ensures { result ≡ no_totals number }
-{
-    Totals {
-        refusal: number,
-        entries: 0,
-        links: 0,
-        blocks: 0,
-        choice: no_choice(),
-    }
-}
-
-fn no_choice() -> Choice
-    ensures { result ≡ no_choice }
-{
-    Choice {
-        found: false,
-        list: no_place(),
-        kind: 0,
-        thread: no_thread(0),
-    }
-}
-
 // The name is the shown name.
 fn same_name(name: &[u8], shown: Name) -> bool
     ensures { result ≡ same name.now (take shown.length shown.letters) }
@@ -291,29 +239,21 @@ pub fn has_name(disk: &[u8], x: usize, name: &[u8]) -> bool
     same_name(name, e.name)
 }
 
-// The entry from x on, which is number j, is the one asked for: by its name, which is not read else, or by its number.
-fn picks(disk: &[u8], x: usize, named: bool, number: u64, name: &[u8], j: u32) -> bool
-    ensures { result ≡ cond named (same name.now (shown (entry_from disk.now x).raw)) (eqb j number) }
+// The entry from x on, which is number j, is the one asked for.
+fn picks(disk: &[u8], x: usize, wanted: Wanted, j: u32) -> bool
+    ensures { result ≡ picked wanted.entry j (entry_from disk.now x) }
 {
-    if named {
-        return has_name(disk, x, name);
+    match wanted {
+        Wanted::Named(name) => has_name(disk, x, name),
+        Wanted::Numbered(number) => j as u64 == number,
     }
-    j as u64 == number
 }
 
 // The new choice where it is taken, else the old one.
-fn choose(old: Choice, pick: bool, list: Place, kind: u8, h: Thread) -> Choice
-    ensures { result ≡ cond pick (choice list kind h) old }
+fn choose(old: Option<Choice>, pick: bool, new: Choice) -> Option<Choice>
+    ensures { result ≡ cond pick (Some new) old }
 {
-    if pick {
-        return Choice {
-            found: true,
-            list: list,
-            kind: kind,
-            thread: h,
-        };
-    }
-    old
+    if pick { Some(new) } else { old }
 }
 
 // The totals with one entry more, of that first list and type; h is what its lists come to.
@@ -326,117 +266,71 @@ fn add_thread(
     pick: bool,
     h: Thread,
 ) -> Totals
-    requires { Within t 100000 }
+    requires { Within 100000 t }
     ensures { Joined per disk.now t list kind pick h result }
 {
-    if h.refusal != 0 {
-        return no_totals(h.refusal);
-    }
-    let old = t.choice;
     let size = file_size(disk, per, kind, h) as u64;
+    let new = Choice {
+        list,
+        kind,
+        thread: h,
+    };
     Totals {
-        refusal: 0,
         entries: t.entries + 1,
         links: t.links + h.lists as u64,
         blocks: t.blocks + (1 + (size + 253) / 254),
-        choice: choose(old, pick, list, kind, h),
+        choice: choose(t.choice, pick, new),
     }
 }
 
-// The totals with the entry from x on.
-fn add_live(
-    disk: &[u8],
-    per: u8,
-    t: Totals,
-    x: usize,
-    named: bool,
-    number: u64,
-    name: &[u8],
-) -> Totals
-    requires { Within t 100000 }
-    ensures { Entered per disk.now named number name.now t x result }
+// The totals with the entry from x on, where it is in use; 3, 4, 5 for its lists.
+fn add_entry(disk: &[u8], per: u8, t: Totals, x: usize, wanted: Wanted) -> Result<Totals, Refusal>
+    requires { Within 100000 t }
+    ensures { Added per disk.now (picked wanted.entry) t x result }
 {
+    if !valid_file(byte_at(disk, x)) {
+        return Ok(t);
+    }
     let list = entry_list(disk, x);
     let kind = entry_type(disk, x);
-    let h = build_file(disk, per, list);
-    let pick = picks(disk, x, named, number, name, t.entries);
-    add_thread(disk, per, t, list, kind, pick, h)
-}
-
-// The same, where it is in use; the first refusal stands.
-fn add_entry(
-    disk: &[u8],
-    per: u8,
-    t: Totals,
-    x: usize,
-    named: bool,
-    number: u64,
-    name: &[u8],
-) -> Totals
-    requires { Within t 100000 }
-    ensures { Added per disk.now named number name.now t x result }
-{
-    if t.refusal != 0 {
-        return t;
-    }
-    if valid_file(byte_at(disk, x)) {
-        return add_live(disk, per, t, x, named, number, name);
-    }
-    t
-}
-
-// The totals with one link more.
-fn add_link(t: Totals) -> Totals
-    requires { Within t 100000 }
-    ensures { Linked t result }
-{
-    if t.refusal != 0 {
-        return t;
-    }
-    let old = t.choice;
-    Totals {
-        refusal: 0,
-        entries: t.entries,
-        links: t.links + 1,
-        blocks: t.blocks,
-        choice: old,
-    }
-}
-
-// The totals with the entries of one page more.
-fn add_entries(
-    disk: &[u8],
-    per: u8,
-    before: Totals,
-    p: Place,
-    named: bool,
-    number: u64,
-    name: &[u8],
-) -> Totals
-    requires { Within before 90001 }
-    ensures { Ranged per disk.now named number name.now before p result }
-{
-    let mut t = before;
-    for i in 0..7u8 {
-        t = add_entry(disk, per, t, entry_start(per, p, i), named, number, name);
-    }
-    t
+    let thread = build_file(disk, per, list)?;
+    let pick = picks(disk, x, wanted, t.entries);
+    Ok(add_thread(disk, per, t, list, kind, pick, thread))
 }
 
 // The totals with one page more: a link, and its entries.
 fn add_page(
     disk: &[u8],
     per: u8,
-    t: Totals,
+    before: Totals,
     p: Place,
-    named: bool,
-    number: u64,
-    name: &[u8],
-) -> Totals
-    requires { Within t 90000 }
-    ensures { Paged per disk.now named number name.now t p result }
+    wanted: Wanted,
+) -> Result<Totals, Refusal>
+    requires { Within 90000 before }
+    ensures { Paged per disk.now (picked wanted.entry) before p result }
 {
-    add_entries(disk, per, add_link(t), p, named, number, name)
+    let mut t = Totals {
+        links: before.links + 1,
+        ..before
+    };
+    for i in 0..7u8 {
+        t = add_entry(disk, per, t, entry_start(per, p, i), wanted)?;
+    }
+    Ok(t)
+}
+
+// The same, where no page before refused.
+fn add_next(
+    disk: &[u8],
+    per: u8,
+    before: Result<Totals, Refusal>,
+    p: Place,
+    wanted: Wanted,
+) -> Result<Totals, Refusal>
+    requires { Gives (Within 90000) before }
+    ensures { Turned per disk.now (picked wanted.entry) before p result }
+{
+    add_page(disk, per, before?, p, wanted)
 }
 
 // Totals of nothing yet: block 0 alone.
@@ -444,79 +338,52 @@ fn none_yet() -> Totals
     ensures { result ≡ none_yet }
 {
     Totals {
-        refusal: 0,
         entries: 0,
         links: 0,
         blocks: 1,
-        choice: no_choice(),
+        choice: None,
     }
 }
 
 // The totals of the pages from `first` on. A page's refusal stands before any entry's, so all pages are read also after an entry refused.
-fn build_files(disk: &[u8], per: u8, first: Place, named: bool, number: u64, name: &[u8]) -> Totals
-    ensures { result ≡ totaled (walk_totals per disk.now named number name.now first) }
+fn build_files(disk: &[u8], per: u8, first: Place, wanted: Wanted) -> Result<Totals, Refusal>
+    ensures { result ≡ walk_totals per disk.now (picked wanted.entry) first }
 {
     let most = chain_budget(per);
     let mut p = first;
-    let mut k: u16 = 0;
-    let mut t = none_yet();
-    loop {
-        if most <= k {
-            return no_totals(RING);
-        }
+    let mut t: Result<Totals, Refusal> = Ok(none_yet());
+    for _turn in 0..most {
         if !on_disk(per, p) {
-            return no_totals(OFF_DISC);
+            return Err(Refusal::OffDisc);
         }
         if !plain_page(disk, per, p) {
-            return no_totals(BAD_LETTER);
+            return Err(Refusal::BadLetter);
         }
-        t = add_page(disk, per, t, p, named, number, name);
-        k += 1;
+        t = add_next(disk, per, t, p, wanted);
         if last_page(disk, per, p) {
             return t;
         }
         p = link_of(disk, per, p);
     }
+    Err(Refusal::Ring)
 }
 
 // The totals of a disk of `per` sectors a track, and the entry asked for; refusals 1 to 6 in the flat order.
-fn go_through(disk: &[u8], per: u8, named: bool, number: u64, name: &[u8]) -> Totals
-    ensures { result ≡ totaled (totals per disk.now named number name.now) }
+#[tactic(auto, unfolding(crate::specs::Totals::totals, crate::specs::Totals::walk_totals, catalog::specs::Catalog::pages))]
+fn go_through(disk: &[u8], per: u8, wanted: Wanted) -> Result<Totals, Refusal>
+    ensures { result ≡ totals per disk.now (picked wanted.entry) }
 {
-    let refusal = table_refusal(disk, per);
-    if refusal != 0 {
-        return no_totals(refusal);
-    }
-    build_files(disk, per, first_page(disk, per), named, number, name)
-}
-
-// A refusal: zeros.
-fn no_survey(number: u8) -> DiskSurvey
-    ensures { result ≡ no_survey number }
-{
-    DiskSurvey {
-        refusal: number,
-        volume: 0,
-        entries: 0,
-        free: 0,
-        used: 0,
-        percent_used: 0,
-        archive_blocks: 0,
-        links: 0,
-    }
+    readable(disk, per)?;
+    build_files(disk, per, first_page(disk, per), wanted)
 }
 
 // The survey of a disk of `per` sectors a track; refusals 1 to 6.
-fn survey_of(disk: &[u8], per: u8) -> DiskSurvey
-    ensures { result ≡ surveyed (survey per disk.now) }
+fn survey_of(disk: &[u8], per: u8) -> Result<DiskSurvey, Refusal>
+    ensures { result ≡ survey per disk.now }
 {
-    let t = go_through(disk, per, false, 0, b"");
-    if t.refusal != 0 {
-        return no_survey(t.refusal);
-    }
-    let v = table_of(disk, per);
-    DiskSurvey {
-        refusal: 0,
+    let t = go_through(disk, per, Wanted::Numbered(0))?;
+    let v = table_of(disk, per)?;
+    Ok(DiskSurvey {
         volume: v.diskette_volume_number,
         entries: t.entries,
         free: v.free,
@@ -524,24 +391,14 @@ fn survey_of(disk: &[u8], per: u8) -> DiskSurvey
         percent_used: v.percent_used,
         archive_blocks: t.blocks,
         links: t.links,
-    }
+    })
 }
 
 // The survey of a flat disk: volume, entries, free, used, percent used, archive blocks, and the links followed; refusals 1 to 6.
-pub fn survey(disk: &[u8]) -> DiskSurvey
-    ensures { result ≡ surveyed (survey (per_of disk.now) disk.now) }
+pub fn survey(disk: &[u8]) -> Result<DiskSurvey, Refusal>
+    ensures { result ≡ survey (per_of disk.now) disk.now }
 {
     survey_of(disk, sectors_of(disk))
-}
-
-// The difference, or 0.
-fn less(a: usize, b: usize) -> usize
-    ensures { result ≡ a - b }
-{
-    if a < b {
-        return 0;
-    }
-    a - b
 }
 
 // Copies what is wanted of one sector.
@@ -556,7 +413,7 @@ fn copy_sector(disk: &[u8], per: u8, q: Place, out: &mut [u8], size: usize, s: S
     copy_at(piece, out, at);
     Spot {
         at: at + piece.len(),
-        skip: less(skip, sector.len()),
+        skip: skip.saturating_sub(sector.len()),
     }
 }
 
@@ -566,46 +423,45 @@ fn copy_pairs(disk: &[u8], per: u8, p: Place, out: &mut [u8], size: usize, first
     ensures { Copied size (list_bytes per disk.now p) first out.old out.new result }
 {
     let mut s = first;
-    let mut i: u8 = 0;
-    while i < MAX_PAIRS {
+    for i in 0..MAX_PAIRS {
         let q = parse_track_sector_pair(disk, per, p, i);
         if q.track.0 == 0 {
             return s;
         }
         s = copy_sector(disk, per, q, out, size, s);
-        i += 1;
     }
     s
 }
 
 // The pairs of the list at p on a disk of `per` sectors a track; refusals 1, 3, 12.
-fn pairs_of(disk: &[u8], per: u8, p: Place, out: &mut [u8]) -> Handed
+fn pairs_of(disk: &[u8], per: u8, p: Place, out: &mut [u8]) -> Result<usize, Refusal>
     ensures { Hands (pair_bytes per disk.now p) out.old out.new result }
 {
     if disk.len() != 256 * (35 * (per as usize)) {
-        return refused(OFF_SIZE);
+        return Err(Refusal::OffSize);
     }
     if !on_disk(per, p) {
-        return refused(OFF_DISC);
+        return Err(Refusal::OffDisc);
     }
     let run = parse_track_sector_list(disk, per, p);
     let size = 2 * (run.count as usize);
     if out.len() < size {
-        return refused(TRAY_SHORT);
+        return Err(Refusal::TrayShort);
     }
     copy_at(part(disk, sector_start(per, p) + 12, size), out, 0);
-    accepted(size)
+    Ok(size)
 }
 
 // The pairs of the list at a location, two bytes each: track, sector; refusals 1, 3, 12. The pairs are not followed.
-pub fn track_sector_pairs(disk: &[u8], track: Track, sector: Sector, out: &mut [u8]) -> Handed
+pub fn track_sector_pairs(
+    disk: &[u8],
+    track: Track,
+    sector: Sector,
+    out: &mut [u8],
+) -> Result<usize, Refusal>
     ensures { Hands (pair_bytes (per_of disk.now) disk.now (place track.0 sector.0)) out.old out.new result }
 {
-    let p = Place {
-        track: track,
-        sector: sector,
-    };
-    pairs_of(disk, sectors_of(disk), p, out)
+    pairs_of(disk, sectors_of(disk), Place { track, sector }, out)
 }
 
 // Copies what is wanted of the sectors of all lists from `first` on, where these were followed before; the spot behind it.
@@ -615,15 +471,13 @@ fn copy_lists(disk: &[u8], per: u8, first: Place, out: &mut [u8], size: usize, s
 {
     let most = chain_budget(per);
     let mut p = first;
-    let mut k: u16 = 0;
     let mut s = start;
-    while k < most {
+    for _turn in 0..most {
         s = copy_pairs(disk, per, p, out, size, s);
         if last_list(disk, per, p) {
             return s;
         }
         p = link_of(disk, per, p);
-        k += 1;
     }
     s
 }
@@ -645,58 +499,50 @@ fn file_start(disk: &[u8], per: u8, kind: u8, t: Thread) -> usize
 }
 
 // The bytes of a file by its first list and its type, its lists and pairs having been followed; refusal 12.
-fn get_data(disk: &[u8], per: u8, list: Place, kind: u8, h: Thread, out: &mut [u8]) -> Handed
-    requires { Kept per disk.now list h }
-    ensures { Hands (file_bytes per disk.now list kind) out.old out.new result }
+fn get_data(disk: &[u8], per: u8, c: Choice, out: &mut [u8]) -> Result<usize, Refusal>
+    requires { Kept per disk.now c.list c.thread }
+    ensures { Hands (file_bytes per disk.now c.list c.kind) out.old out.new result }
 {
-    let size = file_size(disk, per, kind, h) as usize;
+    let size = file_size(disk, per, c.kind, c.thread) as usize;
     if out.len() < size {
-        return refused(TRAY_SHORT);
+        return Err(Refusal::TrayShort);
     }
-    let skip = file_start(disk, per, kind, h);
-    copy_lists(disk, per, list, out, size, Spot { at: 0, skip: skip });
-    accepted(size)
+    let skip = file_start(disk, per, c.kind, c.thread);
+    copy_lists(disk, per, c.list, out, size, Spot { at: 0, skip });
+    Ok(size)
 }
 
 // The bytes of an entry of a disk of `per` sectors a track; refusals 1 to 6, 12.
-fn file_of(disk: &[u8], per: u8, number: u64, out: &mut [u8]) -> Handed
+fn file_of(disk: &[u8], per: u8, number: u64, out: &mut [u8]) -> Result<usize, Refusal>
     ensures { Hands (file_of_number per disk.now number) out.old out.new result }
 {
-    let t = go_through(disk, per, false, number, b"");
-    if t.refusal != 0 {
-        return refused(t.refusal);
+    let t = go_through(disk, per, Wanted::Numbered(number))?;
+    match t.choice {
+        None => Ok(0),
+        Some(c) => get_data(disk, per, c, out),
     }
-    let c = t.choice;
-    if !c.found {
-        return accepted(0);
-    }
-    get_data(disk, per, c.list, c.kind, c.thread, out)
 }
 
 // The bytes of entry number `number`, from 0; none past the last. Refusals 1 to 6, 12.
-pub fn file(disk: &[u8], number: u64, out: &mut [u8]) -> Handed
+pub fn file(disk: &[u8], number: u64, out: &mut [u8]) -> Result<usize, Refusal>
     ensures { Hands (file_of_number (per_of disk.now) disk.now number) out.old out.new result }
 {
     file_of(disk, sectors_of(disk), number, out)
 }
 
 // The bytes of the last entry of a name on a disk of `per` sectors a track; refusals 1 to 6, 18, 12.
-fn fetch_of(disk: &[u8], per: u8, name: &[u8], out: &mut [u8]) -> Handed
+fn fetch_of(disk: &[u8], per: u8, name: &[u8], out: &mut [u8]) -> Result<usize, Refusal>
     ensures { Hands (fetched per disk.now name.now) out.old out.new result }
 {
-    let t = go_through(disk, per, true, 0, name);
-    if t.refusal != 0 {
-        return refused(t.refusal);
+    let t = go_through(disk, per, Wanted::Named(name))?;
+    match t.choice {
+        None => Err(Refusal::NotOnRoll),
+        Some(c) => get_data(disk, per, c, out),
     }
-    let c = t.choice;
-    if !c.found {
-        return refused(NOT_ON_ROLL);
-    }
-    get_data(disk, per, c.list, c.kind, c.thread, out)
 }
 
 // The bytes of the last entry whose shown name is `name`. Refusals 1 to 6, 18, 12.
-pub fn fetch(disk: &[u8], name: &[u8], out: &mut [u8]) -> Handed
+pub fn fetch(disk: &[u8], name: &[u8], out: &mut [u8]) -> Result<usize, Refusal>
     ensures { Hands (fetched (per_of disk.now) disk.now name.now) out.old out.new result }
 {
     fetch_of(disk, sectors_of(disk), name, out)
@@ -709,9 +555,8 @@ fn write_lists(disk: &[u8], per: u8, first: Place, out: &mut [u8])
 {
     let most = chain_budget(per);
     let mut p = first;
-    let mut k: u16 = 0;
     let mut w: usize = 0;
-    while k < most {
+    for _turn in 0..most {
         let pair = [p.track.0, p.sector.0];
         copy_at(&pair, out, w);
         w += 2;
@@ -719,40 +564,35 @@ fn write_lists(disk: &[u8], per: u8, first: Place, out: &mut [u8])
             return;
         }
         p = link_of(disk, per, p);
-        k += 1;
     }
 }
 
-// The places of the lists from a first list on, these having been followed; refusal 12.
-fn get_lists(disk: &[u8], per: u8, list: Place, h: Thread, out: &mut [u8]) -> Handed
-    requires { Kept per disk.now list h }
-    ensures { Hands (walk_places per disk.now list) out.old out.new result }
+// The places of the lists of an entry, these having been followed; refusal 12.
+fn get_lists(disk: &[u8], per: u8, c: Choice, out: &mut [u8]) -> Result<usize, Refusal>
+    requires { Kept per disk.now c.list c.thread }
+    ensures { Hands (walk_places per disk.now c.list) out.old out.new result }
 {
-    let size = 2 * (h.lists as usize);
+    let size = 2 * (c.thread.lists as usize);
     if out.len() < size {
-        return refused(TRAY_SHORT);
+        return Err(Refusal::TrayShort);
     }
-    write_lists(disk, per, list, out);
-    accepted(size)
+    write_lists(disk, per, c.list, out);
+    Ok(size)
 }
 
 // The lists of an entry of a disk of `per` sectors a track; refusals 1 to 6, 12.
-fn lists_of(disk: &[u8], per: u8, number: u64, out: &mut [u8]) -> Handed
+fn lists_of(disk: &[u8], per: u8, number: u64, out: &mut [u8]) -> Result<usize, Refusal>
     ensures { Hands (lists_of_number per disk.now number) out.old out.new result }
 {
-    let t = go_through(disk, per, false, number, b"");
-    if t.refusal != 0 {
-        return refused(t.refusal);
+    let t = go_through(disk, per, Wanted::Numbered(number))?;
+    match t.choice {
+        None => Ok(0),
+        Some(c) => get_lists(disk, per, c, out),
     }
-    let c = t.choice;
-    if !c.found {
-        return accepted(0);
-    }
-    get_lists(disk, per, c.list, c.thread, out)
 }
 
 // The track/sector lists of entry number `number`, from 0, two bytes each: track, sector; none past the last. Refusals 1 to 6, 12.
-pub fn track_sector_lists(disk: &[u8], number: u64, out: &mut [u8]) -> Handed
+pub fn track_sector_lists(disk: &[u8], number: u64, out: &mut [u8]) -> Result<usize, Refusal>
     ensures { Hands (lists_of_number (per_of disk.now) disk.now number) out.old out.new result }
 {
     lists_of(disk, sectors_of(disk), number, out)

@@ -15,52 +15,48 @@
 
 use disk::{Sector, Track};
 use lists::part;
-use outcome::Handed;
+use outcome::Refusal;
 use pairs::TrackSectorPair;
-use trial::{STDOUT_FILENO, handed_line, number, print, print_line, print_number};
+use trial::{STDOUT_FILENO, handed_line, number, print, print_decimals, print_line, print_number};
 
 // The first 80 bytes that were handed over, and the byte behind all of them.
-fn handed_lines(text: &[u8], h: Handed, space: &[u8]) {
-    handed_line(text, h);
-    if trial::untouched(space) {
-        print(b"  nothing changed\n");
-        return;
-    }
-    print(b"  bytes");
-    trial::print_decimals(part(part(space, 0, h.length), 0, 80));
-    print(b"\n");
-    print_line(b"  behind", lists::byte_at(space, h.length) as u64);
+fn handed_lines(text: &[u8], answer: Result<usize, Refusal>, space: &[u8]) {
+    trial::handed_lines(
+        text,
+        answer,
+        space,
+        |bytes| print_decimals(part(bytes, 0, 80)),
+    );
 }
 
 fn show_catalog(disk: &[u8], space: &mut [u8]) {
-    let r = catalog::parse_catalogs(disk, space);
-    handed_lines(b"catalog: refusal", r.handed, space);
-    print_line(b"  pages", r.pages as u64);
+    let listing = catalog::parse_catalogs(disk, space);
+    handed_lines(b"catalog: refusal", listing.map(|l| l.length), space);
+    print_line(b"  pages", listing.map_or(0, |l| l.pages as u64));
 }
 
 fn show_file(disk: &[u8], space: &mut [u8], number: u8) {
-    let h = files::file(disk, number as u64, space);
-    handed_lines(b"file: refusal", h, space);
+    let answer = files::file(disk, number as u64, space);
+    handed_lines(b"file: refusal", answer, space);
 }
 
 fn show_lists(disk: &[u8], space: &mut [u8], number: u8) {
-    let h = files::track_sector_lists(disk, number as u64, space);
-    handed_lines(b"lists: refusal", h, space);
+    let answer = files::track_sector_lists(disk, number as u64, space);
+    handed_lines(b"lists: refusal", answer, space);
 }
 
 fn show_pairs(disk: &[u8], space: &mut [u8], track: u8, sector: u8) {
-    let h = files::track_sector_pairs(disk, Track(track), Sector(sector), space);
-    handed_lines(b"pairs: refusal", h, space);
+    let answer = files::track_sector_pairs(disk, Track(track), Sector(sector), space);
+    handed_lines(b"pairs: refusal", answer, space);
 }
 
 fn show_fetch(disk: &[u8], space: &mut [u8], length: u8) {
-    let h = files::fetch(disk, part(disk, 0, length as usize), space);
-    handed_lines(b"fetch: refusal", h, space);
+    let answer = files::fetch(disk, part(disk, 0, length as usize), space);
+    handed_lines(b"fetch: refusal", answer, space);
 }
 
 fn show_survey(disk: &[u8]) {
-    let s = files::survey(disk);
-    trial::refusal_line(b"survey: refusal", s.refusal);
+    let s = showing::survey(disk);
     print_line(b"  volume", s.volume as u64);
     print_line(b"  entries", s.entries as u64);
     print_line(b"  free", s.free as u64);
@@ -78,10 +74,9 @@ fn print_pair(p: TrackSectorPair) {
 
 fn run_line(run: [TrackSectorPair; 4]) {
     print(b"  run");
-    print_pair(run[0]);
-    print_pair(run[1]);
-    print_pair(run[2]);
-    print_pair(run[3]);
+    for pair in run {
+        print_pair(pair);
+    }
     print(b"\n");
 }
 
@@ -153,20 +148,7 @@ fn act(disk: &mut [u8], step: [u8; 6]) {
     }
 }
 
-fn run(disk: &mut [u8]) {
-    let mut left: u32 = 100000;
-    while left > 0 {
-        let s = trial::next_step();
-        if !s.more {
-            return;
-        }
-        let step = s.bytes;
-        act(disk, step);
-        left -= 1;
-    }
-}
-
 fn main() {
     let mut disk = trial::disk();
-    run(&mut disk);
+    trial::run_script(|step| act(&mut disk, step));
 }

@@ -14,16 +14,12 @@ use Rattle.lists.proofs.Laws.{placed_zeros}
 use Rattle.lists.proofs.Placed.{length_placed}
 use Rattle.lists.proofs.Put.{Put, placed_put, put_more, put_zeros}
 use Rattle.disk.specs.declared.Place.{Place}
-use Rattle.disk.specs.Disk.{place, start}
+use Rattle.disk.specs.Disk.{start}
 use Rattle.records.specs.Records.{file_record}
 use Rattle.filing.specs.Filing.{place_in, list_in, with_lists, data_in, with_data, filed, Filed}
 use Rattle.filing.specs.Steps.{ListMade, DataMade, DataPut, ListsWritten, DataWritten}
 
 -- ---- a place
-pub place_read : (P : List ℕ) (i t s : ℕ) → t ≡ get_or P (2 * i) 0 → s ≡ get_or P (2 * i + 1) 0 → place t s ≡ place_in P i
-place_read P i t s a b = rw (a, b) refl
-
-pub ruleset place_reads = (place_read, rules)
 
 -- ---- bytes put into zeros, one run behind the other
 module _ (n : ℕ) (z : List ℕ) (ez : z ≡ replicate n 0) where

@@ -4,7 +4,8 @@ use mathlib.Core.List.{List, ◌∷◌, ◌++◌, map}
 use Prim.Native.Nat.{ℕ}
 use native.Mathlib.Omega.{arith}
 use lib.ListN.{length, drop}
-use Rattle.outcome.specs.Outcome.{given, number, answer_of, accepted_with}
+use Rattle.std.specs.Prelude.{Ok}
+use Rattle.outcome.specs.Outcome.{Outcome, answer_of}
 use Rattle.outcome.proofs.Outcome.{gives, handed_fits, hands_given}
 use Rattle.amend.specs.Amending.{run}
 use Rattle.forecast.specs.Forecast.{Forecast, forecast, numbers_in, forecast_numbers}
@@ -14,7 +15,7 @@ use Rattle.forecast.proofs.Forecasting.{forecasting}
 use Rattle.forecast.proofs.Calls.{numbers}
 
 -- calls in a row answer what the definitions answer, and leave their disk
-answers_are : (d e : List ℕ) (ss : List Planned) (rs : List ℕ) → Saves d ss rs e → (rs ≡ answers_to 16 d (map save_of ss)) × (e ≡ run 16 d (map save_of ss))
+answers_are : (d e : List ℕ) (ss : List Planned) (rs : List (Outcome (Unit {0}))) → Saves d ss rs e → (rs ≡ answers_to 16 d (map save_of ss)) × (e ≡ run 16 d (map save_of ss))
 unfolding answers_to run
 answers_are d e ss rs Says.none = (refl, refl)
 answers_are d f ss rs (Says.more {e = e} {s = s} {ss = ss'} {rs = rs'} r a c) =
@@ -24,22 +25,22 @@ answers_are d f ss rs (Says.more {e = e} {s = s} {ss = ss'} {rs = rs'} r a c) =
     )
 
 -- the numbers that were given are those of a forecast
-forecast_given : (d ks ns : List ℕ) → forecast_numbers d ks ≡ given ns → (f : Forecast) × (forecast 16 d ks ≡ given f) × (numbers_in f ≡ ns)
+forecast_given : (d ks ns : List ℕ) → forecast_numbers d ks ≡ Ok ns → (f : Forecast) × (forecast 16 d ks ≡ Ok f) × (numbers_in f ≡ ns)
 unfolding forecast_numbers
 forecast_given d ks ns e =
-    let g = gives (forecast 16 d ks) (λ f. given (numbers_in f)) ns e in
-    let q : given (numbers_in g.0) ≡ given ns = g.2 in
+    let g = gives (forecast 16 d ks) (λ f. Ok (numbers_in f)) ns e in
+    let q : Ok (numbers_in g.0) ≡ Ok ns = g.2 in
     (g.0, g.1, cc)
 
 pub foretelling : Foretelling
 foretelling =
     record {
       accepts = λ d c ks before after h u few wide.
-          let n = numbers d ks (ap number c.is) few in
+          let n = numbers d ks c.has c.is few in
           let fits = handed_fits (forecast_numbers d ks) before n.1 (omega (arith, n.2)) in
-          u.answer ∙ ap answer_of fits ∙ ap accepted_with n.2;
-      equals = λ d c ls l ss a before after h u z e rs s.
-          let w = hands_given u z in
+          u.answer ∙ ap answer_of fits ∙ ap Ok n.2;
+      equals = λ d c ls l ss a before after m u e rs s.
+          let w = hands_given m u refl in
           let g = forecast_given d (lengths_of ss) w.0 w.1 in
           let t = forecasting.equals d c ls l ss a g.0 g.1 in
           let r = answers_are d e ss rs s in (

@@ -3,8 +3,8 @@ use mathlib.Core.Path.{◌≡◌, refl}
 use mathlib.Core.List.{List, [], ◌∷◌}
 use Prim.Native.Nat.{ℕ}
 use Rattle.lists.specs.Fill.{tab, below}
+use Rattle.std.specs.Prelude.{Err}
 use Rattle.outcome.specs.declared.Refusal.TheVariants.{OffSize, PlanLong}
-use Rattle.outcome.specs.Outcome.{refused}
 use Rattle.disk.specs.Disk.{sized}
 use Rattle.disk.specs.Vtoc.{readable}
 use Rattle.catalog.specs.Catalog.{pages, catalog}
@@ -21,10 +21,10 @@ pub longest : goes_on 32768 no_saves ≡ record { data_sectors = 129; list_secto
 longest = refl
 
 -- 65 lengths are too many, whatever the disk; of 64 an empty disk is refused by its size
-pub lengths_65 : (d : List ℕ) → forecast 16 d (below 65) ≡ refused PlanLong
+pub lengths_65 : (d : List ℕ) → forecast 16 d (below 65) ≡ Err PlanLong
 unfolding forecast tab
 lengths_65 d = refl
 
-pub lengths_64 : forecast 16 [] (below 64) ≡ refused OffSize
+pub lengths_64 : forecast 16 [] (below 64) ≡ Err OffSize
 unfolding forecast tab tidy contents catalog pages readable sized
 lengths_64 = refl

@@ -16,9 +16,10 @@ use Rattle.lists.specs.Select.{any, filter}
 use Rattle.lists.proofs.Split.{by_test}
 use Rattle.lists.proofs.Among.{unlike}
 use Rattle.lists.proofs.Equal.{same_eq}
+use Rattle.std.specs.Prelude.{Ok, Err}
 use Rattle.outcome.specs.declared.Refusal.{Refusal}
 use Rattle.outcome.specs.declared.Refusal.TheVariants.{NoSpace, PlanLong}
-use Rattle.outcome.specs.Outcome.{Outcome, refused, given}
+use Rattle.outcome.specs.Outcome.{Outcome}
 use Rattle.outcome.proofs.Outcome.{met}
 use Rattle.disk.specs.declared.Place.{Place}
 use Rattle.disk.specs.Disk.{start, bytes_of, sectors}
@@ -50,11 +51,11 @@ used_more u k =
     record { data_sectors = u.data_sectors + data_for k; list_sectors = u.list_sectors + lists_for (data_for k); entry_lines = u.entry_lines + 1 }
 
 -- the disk after the first of some, refused or accepted
-run_refused : (n : ℕ) (d : List ℕ) (op : Op) (ops : List Op) (r : Refusal) → amend n d op ≡ refused r → run n d (op ∷ ops) ≡ run n d ops
+run_refused : (n : ℕ) (d : List ℕ) (op : Op) (ops : List Op) (r : Refusal) → amend n d op ≡ Err r → run n d (op ∷ ops) ≡ run n d ops
 unfolding run
 run_refused n d op ops r h = ap (λ (o : Outcome (List ℕ)). run n (kept d o) ops) h
 
-run_given : (n : ℕ) (d e : List ℕ) (op : Op) (ops : List Op) → amend n d op ≡ given e → run n d (op ∷ ops) ≡ run n e ops
+run_given : (n : ℕ) (d e : List ℕ) (op : Op) (ops : List Op) → amend n d op ≡ Ok e → run n d (op ∷ ops) ≡ run n e ops
 unfolding run
 run_given n d e op ops h = ap (λ (o : Outcome (List ℕ)). run n (kept d o) ops) h
 
@@ -69,10 +70,10 @@ told_none n d =
           let a : u.data_sectors ≡ u.data_sectors + 0 = omega arith in
           let b : u.list_sectors ≡ u.list_sectors + 0 = omega arith in
           let c : u.entry_lines ≡ u.entry_lines + 0 = omega arith in
-          q ∙ (λ i. given (record { data_sectors = a i; list_sectors = b i; entry_lines = c i }));
+          q ∙ (λ i. Ok (record { data_sectors = a i; list_sectors = b i; entry_lines = c i }));
     }
 
-told_refused : (n : ℕ) (d : List ℕ) (s : Planned) (ss : List Planned) (f : Forecast) → amend n d (save_of s) ≡ refused NoSpace → Foretold n d ss f
+told_refused : (n : ℕ) (d : List ℕ) (s : Planned) (ss : List Planned) (f : Forecast) → amend n d (save_of s) ≡ Err NoSpace → Foretold n d ss f
     → Foretold n d (s ∷ ss) (ends_in21 f)
 unfolding answers_to run
 told_refused n d s ss f h t =
@@ -82,8 +83,8 @@ told_refused n d s ss f h t =
       needs = λ u q. ap (used n) (run_refused n d (save_of s) (map save_of ss) NoSpace h) ∙ t.needs u q;
     }
 
-told_accepted : (n : ℕ) (d e : List ℕ) (s : Planned) (ss : List Planned) (f : Forecast) → amend n d (save_of s) ≡ given e
-    → ((u : Used) → used n d ≡ given u → used n e ≡ given (used_more u (length s.bytes))) → Foretold n e ss f
+told_accepted : (n : ℕ) (d e : List ℕ) (s : Planned) (ss : List Planned) (f : Forecast) → amend n d (save_of s) ≡ Ok e
+    → ((u : Used) → used n d ≡ Ok u → used n e ≡ Ok (used_more u (length s.bytes))) → Foretold n e ss f
     → Foretold n d (s ∷ ss) (goes_on (length s.bytes) f)
 unfolding answers_to run
 told_accepted n d e s ss f h more t =
@@ -95,7 +96,7 @@ told_accepted n d e s ss f h more t =
           let a : u.data_sectors + data_for k + f.data_sectors ≡ u.data_sectors + (data_for k + f.data_sectors) = omega arith in
           let b : u.list_sectors + lists_for (data_for k) + f.list_sectors ≡ u.list_sectors + (lists_for (data_for k) + f.list_sectors) = omega arith in
           let c : u.entry_lines + 1 + f.entry_lines ≡ u.entry_lines + (1 + f.entry_lines) = omega arith in
-          ap (used n) (run_given n d e (save_of s) (map save_of ss) h) ∙ t.needs (used_more u k) (more u q) ∙ (λ i. given (record { data_sectors = a i; list_sectors = b i; entry_lines = c i }));
+          ap (used n) (run_given n d e (save_of s) (map save_of ss) h) ∙ t.needs (used_more u k) (more u q) ∙ (λ i. Ok (record { data_sectors = a i; list_sectors = b i; entry_lines = c i }));
     }
 
 -- ---- names
@@ -156,23 +157,23 @@ module _ (n : ℕ) (some' : 0 < n) (few : n ≤ 16) where
       }
 
   -- how many lines are open
-  open_count : (d : List ℕ) (r : Reading n d) → open_lines n d ≡ given (length (filter (λ (x : ℕ). not (in_use d x)) (starts n r.ps)))
+  open_count : (d : List ℕ) (r : Reading n d) → open_lines n d ≡ Ok (length (filter (λ (x : ℕ). not (in_use d x)) (starts n r.ps)))
   unfolding open_lines
   open_count d r = rw r.paged refl
 
   module _ (d : List ℕ) (c : Clean n d) (r : Reading n d) (name : List ℕ) (address : ℕ) (bytes : List ℕ) (of_bytes : Bytes bytes)
-      (named : savable name ≡ true) (new : any (holds_name name) r.ls ≡ false) (t : List ℕ) (tables : Tables t d) (left : ℕ) (count : open_lines n d ≡ given left) where
+      (named : savable name ≡ true) (new : any (holds_name name) r.ls ≡ false) (t : List ℕ) (tables : Tables t d) (left : ℕ) (count : open_lines n d ≡ Ok left) where
     -- what a save leaves
     record Accepted (t' e : List ℕ) : Type 0 where
       reading : Reading n e
       clean : Clean n e
       lines : reading.ls ≡ fill_first (file_saved name bytes) r.ls
       tables' : Tables t' e
-      count' : open_lines n e ≡ given (left - 1)
-      more : (u : Used) → used n d ≡ given u → used n e ≡ given (used_more u (length bytes))
+      count' : open_lines n e ≡ Ok (left - 1)
+      more : (u : Used) → used n d ≡ Ok u → used n e ≡ Ok (used_more u (length bytes))
 
     -- .. from the disk d, t' being left of the trial and m of the search
-    accepted : (gs : List Part) (m t' e : List ℕ) → take_for n (length bytes) d ≡ given (gs, m) → Tables t' m → saved n d name address bytes ≡ given e → Accepted t' e
+    accepted : (gs : List Part) (m t' e : List ℕ) → take_for n (length bytes) d ≡ Ok (gs, m) → Tables t' m → saved n d name address bytes ≡ Ok e → Accepted t' e
     accepted gs m t' e took same-table h =
         let s = save_clean n some' few d c.bytes (size_of n some' few d c) r name address bytes of_bytes e h in
         let f : After n d e (fill_first (file_saved name bytes) r.ls) s.0 _ [] = s.5 in
@@ -193,17 +194,17 @@ module _ (n : ℕ) (some' : 0 < n) (few : n ≤ 16) where
           clean = clean_of n some' few e f.bytes f.reading;
           lines = f.lines;
           tables' = tables_then t' m e (f.size ∙ size_of n some' few d c) (s.6.table_is ∙ ap (λ (y : List ℕ). bytes_of n y vtoc) mm) same-table;
-          count' = open_count e f.reading ∙ ap (λ (qs : List Place). given (length (filter (λ (y : ℕ). not (in_use e y)) (starts n qs)))) rp ∙ ap given is;
+          count' = open_count e f.reading ∙ ap (λ (qs : List Place). Ok (length (filter (λ (y : ℕ). not (in_use e y)) (starts n qs)))) rp ∙ ap Ok is;
           more = λ u q.
               more_lists n d e f.old f.front x f.back f.changed ls free' s.6.in_use_now s.6.lists_is u q
-              ∙ (λ i. given (record { data_sectors = u.data_sectors + a i; list_sectors = u.list_sectors + b i; entry_lines = u.entry_lines + 1 }));
+              ∙ (λ i. Ok (record { data_sectors = u.data_sectors + a i; list_sectors = u.list_sectors + b i; entry_lines = u.entry_lines + 1 }));
         }
 
     -- refused on both sides, or accepted on both
     abbrev Beside : Type 0
     Beside =
-        ((tried n left (length bytes) t ≡ refused NoSpace) × (saved n d name address bytes ≡ refused NoSpace))
-        ⊎ ((t' : List ℕ) × (e : List ℕ) × (tried n left (length bytes) t ≡ given t') × (saved n d name address bytes ≡ given e) × Accepted t' e)
+        ((tried n left (length bytes) t ≡ Err NoSpace) × (saved n d name address bytes ≡ Err NoSpace))
+        ⊎ ((t' : List ℕ) × (e : List ℕ) × (tried n left (length bytes) t ≡ Ok t') × (saved n d name address bytes ≡ Ok e) × Accepted t' e)
 
     -- what is left of the save's tests
     is_stored : saved n d name address bytes ≡ stored n d name address bytes
@@ -227,20 +228,20 @@ module _ (n : ℕ) (some' : 0 < n) (few : n ≤ 16) where
         (opened n d r (reading_tidy n d r)))
         (λ q. inl (rw q refl, is_stored ∙ rw q refl))
       where
-        go : leb (length bytes) 32768 ≡ true → ltb 0 left ≡ true → (x : ℕ) → open_line n d ≡ given x
+        go : leb (length bytes) 32768 ≡ true → ltb 0 left ≡ true → (x : ℕ) → open_line n d ≡ Ok x
             → (o w : Outcome (List Part × List ℕ)) → take_for n (length bytes) t ≡ o → take_for n (length bytes) d ≡ w → Both (256 * sectors n) InTable o w → Beside
-        go q l x ox (refused a) (refused b) ho hw z =
+        go q l x ox (Err a) (Err b) ho hw z =
             let y : a ≡ NoSpace = take_refused n (length bytes) t a ho in
             let v : b ≡ NoSpace = take_refused n (length bytes) d b hw in
             inl (rw (q, l, ho, y) refl, is_stored ∙ rw (q, ox, hw, v) refl)
-        go q l x ox (refused a) (given b) ho hw z = absurd z
-        go q l x ox (given a) (refused b) ho hw z = absurd z
-        go q l x ox (given a) (given b) ho hw z =
-            let h : (e : List ℕ) × (saved n d name address bytes ≡ given e) = (made_of n d name address bytes x b.0 b.1, is_stored ∙ rw (q, ox, hw) refl) in
+        go q l x ox (Err a) (Ok b) ho hw z = absurd z
+        go q l x ox (Ok a) (Err b) ho hw z = absurd z
+        go q l x ox (Ok a) (Ok b) ho hw z =
+            let h : (e : List ℕ) × (saved n d name address bytes ≡ Ok e) = (made_of n d name address bytes x b.0 b.1, is_stored ∙ rw (q, ox, hw) refl) in
             inr (a.1, h.0, rw (q, l, ho) refl, h.1, accepted b.0 b.1 a.1 h.0 hw z.1 h.1)
 
   -- ---- all of them
-  told : (ss : List Planned) (d : List ℕ) → Clean n d → (r : Reading n d) → Allowed r.ls ss → (t : List ℕ) → Tables t d → (left : ℕ) → open_lines n d ≡ given left
+  told : (ss : List Planned) (d : List ℕ) → Clean n d → (r : Reading n d) → Allowed r.ls ss → (t : List ℕ) → Tables t d → (left : ℕ) → open_lines n d ≡ Ok left
       → Foretold n d ss (ahead n left t (lengths_of ss))
   unfolding ahead
   told [] d c r a t tb left count = told_none n d
@@ -257,21 +258,21 @@ module _ (n : ℕ) (some' : 0 < n) (few : n ≤ 16) where
       (beside d c r s.name s.address s.bytes (parted a.bytes).0 (parted a.names).0 (parted a.new).0 t tb left count)
 
   -- a forecast on a clean disk
-  forecast_is : (d : List ℕ) → Clean n d → (ks : List ℕ) → length ks ≤ 64 → (left : ℕ) → open_lines n d ≡ given left → forecast n d ks ≡ given (ahead n left d ks)
+  forecast_is : (d : List ℕ) → Clean n d → (ks : List ℕ) → length ks ≤ 64 → (left : ℕ) → open_lines n d ≡ Ok left → forecast n d ks ≡ Ok (ahead n left d ks)
   unfolding forecast
   forecast_is d c ks h left q = rw (le-leb (length ks) 64 h, c.is, q) refl
 
   -- .. of over 64 lengths, and on one that is not
-  forecast_long : (d ks : List ℕ) → 64 < length ks → forecast n d ks ≡ refused PlanLong
+  forecast_long : (d ks : List ℕ) → 64 < length ks → forecast n d ks ≡ Err PlanLong
   unfolding forecast
   forecast_long d ks h = rw (lt-leb (length ks) 64 h) refl
 
-  forecast_reads : (d ks : List ℕ) → length ks ≤ 64 → (r : Refusal) → tidy n d ≡ refused r → forecast n d ks ≡ refused r
+  forecast_reads : (d ks : List ℕ) → length ks ≤ 64 → (r : Refusal) → tidy n d ≡ Err r → forecast n d ks ≡ Err r
   unfolding forecast
   forecast_reads d ks h r q = rw (le-leb (length ks) 64 h, q) refl
 
   -- one that is given is of no more than 64
-  short_enough : (d ks : List ℕ) (f : Forecast) → forecast n d ks ≡ given f → length ks ≤ 64
+  short_enough : (d ks : List ℕ) (f : Forecast) → forecast n d ks ≡ Ok f → length ks ≤ 64
   unfolding forecast
   short_enough d ks f h = leb-true (length ks) 64 (met (leb (length ks) 64) PlanLong _ h).0
 

@@ -6,7 +6,7 @@ use Prim.Native.Nat.{ℕ, suc, ◌+◌, ◌*◌, ◌<◌, ◌≤◌, ◌^◌}
 use native.Mathlib.Nat.{zero-add}
 use native.Mathlib.Numerals.{add-one}
 use native.Mathlib.Omega.{arith}
-use lib.ListN.{length, get_or, length-append}
+use lib.ListN.{length, length-append}
 use borrow.Author.Tests.{not-true, not-false}
 use borrow.Author.Rules.{rules}
 use Rattle.lists.specs.Fill.{tab, below}
@@ -16,21 +16,13 @@ use Rattle.lists.proofs.Laws.{tab_suc}
 use Rattle.lists.proofs.Select.{filter_append}
 use Rattle.disk.specs.declared.Place.{Place}
 use Rattle.disk.specs.Disk.{start, link_of}
-use Rattle.catalog.specs.Catalog.{valid_file, last_page, first_page}
-use Rattle.amend.specs.Lines.{in_use, starts}
+use Rattle.catalog.specs.Catalog.{last_page, first_page}
+use Rattle.amend.specs.Lines.{starts}
 use Rattle.saving.specs.Steps.{idle, Paged}
 use Rattle.saving.proofs.Pass.{Passing, pass_none, pass_over, pass_last, pass_more}
 use Rattle.forecast.specs.Steps.{open_on, PageCounted, Counted}
 
 module _ (d : List ℕ) where
-  -- ---- a line
-  module _ (x b : ℕ) (v : Bool) (g : b ≡ get_or d x 0) (e : v ≡ valid_file b) where
-    pub line_used : v ≡ true → ◌≡◌ {A = ℕ} 0 (cond (idle d x) 1 0)
-    line_used z = let u : in_use d x ≡ true = sym (e ∙ ap valid_file g) ∙ z in rw u refl
-
-    pub line_idle : v ≡ false → ◌≡◌ {A = ℕ} 1 (cond (idle d x) 1 0)
-    line_idle z = let u : in_use d x ≡ false = sym (e ∙ ap valid_file g) ∙ z in rw u refl
-
   -- ---- a page
   abbrev line_on : Place → ℕ → ℕ
   line_on p i = start 16 p + (11 + 35 * i)
@@ -125,8 +117,6 @@ module _ (d : List ℕ) where
                   subst (λ (m : ℕ). Passing add_open d 0 most (k + 1) (n + m) q) (sym u.is)
                   (pass_more add_open d 0 most k n p w.pass (sym e ∙ z) q f h);
             }
-
-pub ruleset line_opens = (line_used, line_idle, rules)
 
 pub ruleset page_opens = (counting_none, counting_more, counting_fits, counting_done, rules)
 

@@ -1,4 +1,5 @@
 -- A save tried in a copy of the VTOC. Assumes nothing.
+use Rattle.std.specs.Prelude.{Ok}
 use mathlib.Core.Path.{◌≡◌, refl, sym, ap, ◌∙◌}
 use mathlib.Core.Bool.{Bool, true, false}
 use mathlib.Core.List.{List}
@@ -10,7 +11,6 @@ use borrow.Author.Rules.{rules}
 use Rattle.lists.specs.Fill.{put, placed}
 use Rattle.lists.proofs.Split.{clash}
 use Rattle.lists.proofs.Put.{placed_put, put_whole}
-use Rattle.outcome.specs.Outcome.{given}
 use Rattle.disk.specs.Disk.{start}
 use Rattle.disk.specs.Vtoc.{vtoc}
 use Rattle.amend.specs.Save.{data_for, lists_for}
@@ -57,7 +57,7 @@ module _ (k s l : ℕ) (T T₁ T₂ P₂ : List ℕ) (b : Bool) (a : Allotted (l
         none = λ y. absurd (clash (sym y));
         all = λ y d h.
             let u = allotted_all d h.size k (l + s) 262 T₁ (replicate 262 0) T₂ P₂ b a many (copy_of ∙ h.table) refl fit z in
-            (u.0, u.1 ∙ ap (λ (t : List ℕ). given (u.0, put (start 16 vtoc) t d)) (sym q));
+            (u.0, u.1 ∙ ap (λ (t : List ℕ). Ok (u.0, put (start 16 vtoc) t d)) (sym q));
       }
 
 -- ---- a save

@@ -2,12 +2,13 @@
 use Rattle.std.specs.Prelude.{◌≡◌, Bool, true, false, List, map, ◌++◌, ℕ, ◌+◌, ◌*◌, ◌-◌, ◌<◌, ◌≤◌, min, length, drop}
 use Rattle.lists.specs.Fill.{below, put}
 use Rattle.lists.specs.Select.{filter}
+use Rattle.std.specs.Prelude.{Ok, Err}
 use Rattle.outcome.specs.declared.Refusal.TheVariants.{NoSpace}
-use Rattle.outcome.specs.Outcome.{refused, given, number}
 use Rattle.disk.specs.declared.Place.{Place}
 use Rattle.disk.specs.Disk.{start, bytes_of}
 use Rattle.disk.specs.Vtoc.{vtoc}
 use Rattle.catalog.specs.Catalog.{pages}
+use Rattle.files.specs.Contents.{Contents}
 use Rattle.amend.specs.Lines.{starts, tidy}
 use Rattle.amend.specs.Save.{Part, data_for, lists_for, take_for}
 use Rattle.saving.specs.Steps.{idle}
@@ -27,7 +28,7 @@ module _ (d : List ℕ) where
 
   -- those of the disk were
   pub record Counted (r : ℕ) : Type 0 where
-    pub is : (ps : List Place) → pages 16 d ≡ given ps → r ≡ length (filter (idle d) (starts 16 ps))
+    pub is : (ps : List Place) → pages 16 d ≡ Ok ps → r ≡ length (filter (idle d) (starts 16 ps))
 
 -- ---- a save tried
 -- the disk d has the VTOC T
@@ -38,19 +39,19 @@ pub record HasTable (T d : List ℕ) : Type 0 where
 -- the sectors of k bytes were sought in T, which is T' after: on every disk that has T none is left, or they are taken as in T'
 pub record SoughtFor (k : ℕ) (T T' : List ℕ) (r : Bool) : Type 0 where
   pub long : length T' ≡ 256
-  pub none : r ≡ false → (T' ≡ T) × ((d : List ℕ) → HasTable T d → take_for 16 k d ≡ refused NoSpace)
-  pub all : r ≡ true → (d : List ℕ) → HasTable T d → (gs : List Part) × (take_for 16 k d ≡ given (gs, put (start 16 vtoc) T' d))
+  pub none : r ≡ false → (T' ≡ T) × ((d : List ℕ) → HasTable T d → take_for 16 k d ≡ Err NoSpace)
+  pub all : r ≡ true → (d : List ℕ) → HasTable T d → (gs : List Part) × (take_for 16 k d ≡ Ok (gs, put (start 16 vtoc) T' d))
 
 -- saves of so many bytes or more end in 21 on every disk that has T, so many lines being left; those over 32,768 do always
 pub record Barred (T : List ℕ) (left least : ℕ) : Type 0 where
   pub most : least ≤ 32769
-  pub is : (k : ℕ) → least ≤ k → (d : List ℕ) → HasTable T d → tried 16 left k d ≡ refused NoSpace
+  pub is : (k : ℕ) → least ≤ k → (d : List ℕ) → HasTable T d → tried 16 left k d ≡ Err NoSpace
 
 -- a save of k bytes was tried in T, so many lines being left: on every disk that has T it ends in 21, or goes on and leaves T'
 pub record Tried (left k : ℕ) (T T' : List ℕ) (r : Bool) : Type 0 where
   pub long : length T' ≡ 256
-  pub ends : r ≡ false → (T' ≡ T) × ((d : List ℕ) → HasTable T d → tried 16 left k d ≡ refused NoSpace)
-  pub goes : r ≡ true → (0 < left) × (k ≤ 32768) × ((d : List ℕ) → HasTable T d → tried 16 left k d ≡ given (put (start 16 vtoc) T' d))
+  pub ends : r ≡ false → (T' ≡ T) × ((d : List ℕ) → HasTable T d → tried 16 left k d ≡ Err NoSpace)
+  pub goes : r ≡ true → (0 < left) × (k ≤ 32768) × ((d : List ℕ) → HasTable T d → tried 16 left k d ≡ Ok (put (start 16 vtoc) T' d))
 
 -- ---- the lengths, one after the other
 -- what was needed so far, the lines left and the least length that is known to end in 21, with a save of k bytes more
@@ -85,10 +86,11 @@ pub record Foreseen (T : List ℕ) (left : ℕ) (ks before after : List ℕ) : T
 -- ---- the end of the call
 -- a clean disk, a plan, and enough elements
 pub record Prepared (d ks N : List ℕ) : Type 0 where
-  pub clean : number (tidy 16 d) ≡ 0
+  pub has : Contents
+  pub clean : tidy 16 d ≡ Ok has
   pub few : length ks ≤ 64
   pub wide : 3 + length ks ≤ length N
 
 -- the numbers of the forecast were put to the front of the elements
 pub record AllTold (d ks before after : List ℕ) : Type 0 where
-  pub is : (ns : List ℕ) → forecast_numbers d ks ≡ given ns → after ≡ ns ++ drop (length ns) before
+  pub is : (ns : List ℕ) → forecast_numbers d ks ≡ Ok ns → after ≡ ns ++ drop (length ns) before

@@ -1,7 +1,7 @@
 // Will it go on? What saves of given lengths will need of a disk, told without writing: Req 11. Not of the Rust.
 #![tactic(auto)]
 
-ghost use Rattle.std.specs.Prelude.{◌≡◌, cond, ◌≤◌, min, length, ◌∷◌, []};
+ghost use Rattle.std.specs.Prelude.{◌≡◌, cond, ◌≤◌, length, ◌∷◌, []};
 ghost use Rattle.lists.specs.Fill.{put};
 ghost use Rattle.outcome.specs.Outcome.{Hands};
 ghost use Rattle.saving.specs.Steps.{idle, Paged};
@@ -12,11 +12,11 @@ use allot::take_sectors;
 use catalog::{entry_start, first_page, last_page, valid_file};
 use disk::{Place, chain_budget, link_of};
 use lists::{byte_at, copy_at};
-use outcome::{Handed, PLAN_LONG, TRAY_SHORT, accepted, refused};
-use saving::{data_for, lists_for, tidy_refusal, vtoc_copy};
+use outcome::Refusal;
+use saving::{data_for, lists_for, tidy, vtoc_copy};
 
 // What the saves before have needed, how many lines are left, and from which length on a save is known to end in 21.
-#[derive(Clone, Copy)]
+#[derive(Clone, Copy, Debug, PartialEq, Eq)]
 struct Needs {
     sectors: usize,
     lists: usize,
@@ -30,10 +30,7 @@ fn line_open(disk: &[u8], x: usize) -> usize
     ensures is { result ≡ cond (idle disk.now x) 1 0 }
     ensures small { result ≤ 1 }
 {
-    if valid_file(byte_at(disk, x)) {
-        return 0;
-    }
-    1
+    if valid_file(byte_at(disk, x)) { 0 } else { 1 }
 }
 
 // How many lines of a page are not in use.
@@ -55,14 +52,12 @@ fn open_lines(disk: &[u8]) -> usize
     let most = chain_budget(16);
     let mut p = first_page(disk, 16);
     let mut many: usize = 0;
-    let mut k: u16 = 0;
-    while k < most {
+    for _turn in 0..most {
         many += page_open(disk, p);
         if last_page(disk, 16, p) {
             return many;
         }
         p = link_of(disk, 16, p);
-        k += 1;
     }
     many
 }
@@ -98,16 +93,6 @@ fn try_save(table: &mut [u8], left: usize, least: u64, k: u64) -> bool
     seek_for(table, k as usize)
 }
 
-// The lesser of two.
-fn lesser(a: u64, b: u64) -> u64
-    ensures { result ≡ min a b }
-{
-    if a <= b {
-        return a;
-    }
-    b
-}
-
 // With a save of k bytes more, if it goes on.
 fn add_save(s: Needs, k: u64, goes: bool) -> Needs
     requires { Room s k goes }
@@ -115,11 +100,8 @@ fn add_save(s: Needs, k: u64, goes: bool) -> Needs
 {
     if !goes {
         return Needs {
-            sectors: s.sectors,
-            lists: s.lists,
-            lines: s.lines,
-            left: s.left,
-            least: lesser(k, s.least),
+            least: k.min(s.least),
+            ..s
         };
     }
     let m = data_for(k as usize);
@@ -136,10 +118,7 @@ fn add_save(s: Needs, k: u64, goes: bool) -> Needs
 fn mark_of(goes: bool) -> u64
     ensures { result ≡ cond goes 0 1 }
 {
-    if goes {
-        return 0;
-    }
-    1
+    if goes { 0 } else { 1 }
 }
 
 // Puts the sums to the front of the elements.
@@ -161,16 +140,14 @@ fn foresee(table: &mut [u8], left: usize, lengths: &[u64], numbers: &mut [u64])
         sectors: 0,
         lists: 0,
         lines: 0,
-        left: left,
+        left,
         least: 32769,
     };
-    let mut i: usize = 0;
-    while i < lengths.len() {
+    for i in 0..lengths.len() {
         let k = lengths[i];
         let goes = try_save(table, s.left, s.least, k);
         numbers[3 + i] = mark_of(goes);
         s = add_save(s, k, goes);
-        i += 1;
     }
     put_sums(s, numbers);
 }
@@ -187,19 +164,16 @@ fn tell(disk: &[u8], lengths: &[u64], numbers: &mut [u64])
 
 // What saves of these lengths, in order, will need: data sectors, list sectors and entry lines in all, then for each length 1 where its save would end in 21,
 // else 0; refusals 25, 1 to 6, 20, 12.
-pub fn forecast(disk: &[u8], lengths: &[u64], numbers: &mut [u64]) -> Handed
+pub fn forecast(disk: &[u8], lengths: &[u64], numbers: &mut [u64]) -> Result<usize, Refusal>
     ensures { Hands (forecast_numbers disk.now lengths.now) numbers.old numbers.new result }
 {
     if 64 < lengths.len() {
-        return refused(PLAN_LONG);
+        return Err(Refusal::PlanLong);
     }
-    let number = tidy_refusal(disk);
-    if number != 0 {
-        return refused(number);
-    }
+    tidy(disk)?;
     if numbers.len() < 3 + lengths.len() {
-        return refused(TRAY_SHORT);
+        return Err(Refusal::TrayShort);
     }
     tell(disk, lengths, numbers);
-    accepted(3 + lengths.len())
+    Ok(3 + lengths.len())
 }

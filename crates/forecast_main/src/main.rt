@@ -14,15 +14,13 @@
 ghost use Rattle.std.specs.Prelude.{◌<◌};
 
 use lists::{byte_at, copy_at, part};
-use outcome::Handed;
-use trial::{number, place_16, print, print_line, print_number, refusal_line, sum_of};
+use outcome::Refusal;
+use showing::survey_of;
+use trial::{filled, number, place_16, print, print_line, print_number, shown, sum_of};
 
 // Element i, 0 past the end.
 fn element(numbers: &[u64], i: usize) -> u64 {
-    if i < numbers.len() {
-        return numbers[i];
-    }
-    0
+    if i < numbers.len() { numbers[i] } else { 0 }
 }
 
 fn set_element(numbers: &mut [u64], i: usize, v: u64) {
@@ -69,48 +67,32 @@ fn set_lengths(lengths: &mut [u64], step: [u8; 6]) {
     }
 }
 
-// Elements to lend, all bytes 55h. What they hold is not promised, so that lending them costs no proof.
-fn elements() -> [u64; 256] {
-    [0x5555555555555555; 256]
-}
-
-fn no_lengths() -> [u64; 256] {
-    [0; 256]
-}
-
-// Bytes to save.
-fn long() -> [u8; 40000] {
-    [0x55; 40000]
-}
-
 // Whether the elements from `first` on are as they were.
 fn untouched_from(numbers: &[u64], first: usize) -> bool {
-    let mut i = first;
-    while i < numbers.len() {
+    for i in first..numbers.len() {
         if numbers[i] != 0x5555555555555555 {
             return false;
         }
-        i += 1;
     }
     true
 }
 
 // A save of k bytes under name i, or 21 by the rule.
-fn save_one(disk: &mut [u8], i: u8, k: u64) -> u8 {
+fn save_one(disk: &mut [u8], i: u8, k: u64) -> Result<(), Refusal> {
     if 40000 < k {
-        return 21;
+        return Err(Refusal::NoSpace);
     }
     let name = [65, 48 + i % 64];
-    let data = long();
+    let data: [u8; 40000] = filled(0x55);
     saving::save(disk, &name, 0x0803, part(&data, 0, k as usize))
 }
 
 // A save ended as it is marked.
-fn as_marked(refusal: u8, mark: u64) -> bool {
-    match refusal {
-        0 => mark == 0,
-        21 => mark == 1,
-        _ => false,
+fn as_marked(answer: Result<(), Refusal>, mark: u64) -> bool {
+    match answer {
+        Ok(()) => mark == 0,
+        Err(Refusal::NoSpace) => mark == 1,
+        Err(_) => false,
     }
 }
 
@@ -136,23 +118,28 @@ fn save_all(disk: &mut [u8], lengths: &[u64], numbers: &[u64]) -> bool {
     good
 }
 
+// How many sectors of a disk are held once, 0 of one that is refused.
+fn held_once(disk: &[u8]) -> u64 {
+    holders::holders(disk).map_or(0, |h| h.held_once as u64)
+}
+
+fn is_clean(disk: &[u8]) -> bool {
+    holders::holders(disk).is_ok_and(|h| h.clean)
+}
+
 // How much more a is than b.
 fn more(a: u64, b: u64) -> u64 {
-    if a < b {
-        return 0;
-    }
-    a - b
+    a.saturating_sub(b)
 }
 
 // Whether a disk that was `old` is clean and has the sums more: by its holders, its map, its links and its catalog.
 fn as_counted(old: &[u8], new: &[u8], numbers: &[u64]) -> bool {
-    let before = files::survey(old);
-    let after = files::survey(new);
-    let h = holders::holders(new);
-    let sectors = more(h.held_once as u64, holders::holders(old).held_once as u64);
+    let before = survey_of(old);
+    let after = survey_of(new);
+    let sectors = more(held_once(new), held_once(old));
     let lists = more(after.links, before.links);
     let files = more(after.entries as u64, before.entries as u64);
-    h.clean
+    is_clean(new)
         & (sectors == more(before.free as u64, after.free as u64))
         & (element(numbers, 0) == more(sectors, lists))
         & (element(numbers, 1) == lists)
@@ -160,7 +147,7 @@ fn as_counted(old: &[u8], new: &[u8], numbers: &[u64]) -> bool {
 }
 
 fn show_disk(disk: &[u8]) {
-    let v = files::survey(disk);
+    let v = survey_of(disk);
     print_number(b"  then free", v.free as u64);
     print_number(b", files", v.entries as u64);
     print_number(b", links", v.links);
@@ -219,23 +206,23 @@ fn show_sums(numbers: &[u64]) {
 }
 
 // A forecast, n of the elements being lent.
-fn lend(disk: &[u8], lengths: &[u64], numbers: &mut [u64], n: usize) -> Handed {
+fn lend(disk: &[u8], lengths: &[u64], numbers: &mut [u64], n: usize) -> Result<usize, Refusal> {
     if n <= numbers.len() {
         return forecast::forecast(disk, lengths, &mut numbers[0..n]);
     }
-    outcome::refused(0)
+    Ok(0)
 }
 
 fn show_forecast(disk: &[u8], lengths: &[u64], n: usize) {
-    let mut numbers = elements();
-    let h = lend(disk, lengths, &mut numbers, n);
-    refusal_line(b"forecast: refusal", h.refusal);
-    print_number(b"  length", h.length as u64);
+    let mut numbers: [u64; 256] = filled(0x5555555555555555);
+    let answer = lend(disk, lengths, &mut numbers, n);
+    let length = shown(b"forecast: refusal", answer, 0);
+    print_number(b"  length", length as u64);
     print_line(
         b", others as they were",
-        untouched_from(&numbers, h.length) as u64,
+        untouched_from(&numbers, length) as u64,
     );
-    if h.refusal == 0 {
+    if answer.is_ok() {
         show_sums(&numbers);
         show_lengths(lengths, &numbers);
         show_saved(disk, lengths, &numbers);
@@ -268,21 +255,8 @@ fn act(disks: &mut [u8], lengths: &mut [u64], step: [u8; 6]) {
     }
 }
 
-fn run(disks: &mut [u8], lengths: &mut [u64]) {
-    let mut left: u32 = 100000;
-    while left > 0 {
-        let s = trial::next_step();
-        if !s.more {
-            return;
-        }
-        let step = s.bytes;
-        act(disks, lengths, step);
-        left -= 1;
-    }
-}
-
 fn main() {
     let mut disks = laying::disks();
-    let mut lengths = no_lengths();
-    run(&mut disks, &mut lengths);
+    let mut lengths: [u64; 256] = filled(0);
+    trial::run_script(|step| act(&mut disks, &mut lengths, step));
 }

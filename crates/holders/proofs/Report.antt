@@ -14,19 +14,21 @@ use Rattle.lists.specs.Select.{filter, passing}
 use Rattle.lists.proofs.Split.{by_test}
 use Rattle.lists.proofs.Chunks.{flat_map_append}
 use Rattle.lists.proofs.Passing.{passing_same}
+use Rattle.std.specs.Prelude.{Ok, Err}
 use Rattle.outcome.specs.declared.Refusal.{Refusal}
-use Rattle.outcome.specs.Outcome.{Outcome, refused, given, ◌>>=◌, ◌>>◌, number, each}
-use Rattle.outcome.proofs.Outcome.{refused_given, number_0, number_then, each_append}
+use Rattle.outcome.specs.Outcome.{Outcome, ◌>>=◌, ◌>>◌, each}
+use Rattle.outcome.proofs.Outcome.{refused_given, each_append}
+use Rattle.outcome.proofs.Silent.{silent, silent_map}
 use Rattle.disk.specs.declared.Place.{Place}
 use Rattle.disk.specs.Disk.{start, number_of, place_of, sectors, per_of}
 use Rattle.disk.specs.Vtoc.{vtoc, readable}
 use Rattle.disk.specs.Chain.{walk}
 use Rattle.catalog.specs.Catalog.{live, entry_from, entries_of, sound_page, next_page, first_page, pages}
 use Rattle.holders.specs.declared.HolderCounts.{HolderCounts}
-use Rattle.holders.specs.Holders.{sectors_of, holders, held, unheld, held_once, shared, free, held_free, clean, numbers_of, holding, no_holders, reported}
+use Rattle.holders.specs.Holders.{sectors_of, holders, held, unheld, held_once, shared, free, held_free, clean, numbers_of, holding}
 use Rattle.holders.specs.Tally.{one_more, bump, bumps, Tallied, line_sectors, with_line, with_lines, with_page, walk_held, met_from, all_met, is_held, is_free}
 use Rattle.holders.proofs.Counting.{held_append, held_none, held_here, held_else}
-use Rattle.holders.proofs.Tallies.{length_bump, bumps_more, bumps_none}
+use Rattle.holders.proofs.Tallies.{silent_given, length_bump, bumps_more, bumps_none}
 
 -- ---- counts and holders
 -- a count, h times one more
@@ -89,30 +91,30 @@ some_is (suc (suc h)) = rw (up_2 h, lt-ltb 0 (suc (suc h)) (omega arith)) refl
 
 -- ---- the order of the pass, and that of the definition: the same refusal, or each sector held as often
 pub record Alike (n : ℕ) (o w : Outcome (List Place)) : Type 0 where
-  pub number : number o ≡ number w
-  pub held : (a b : List Place) → o ≡ given a → w ≡ given b → (k : ℕ) → held n a k ≡ held n b k
+  pub refusal : silent o ≡ silent w
+  pub held : (a b : List Place) → o ≡ Ok a → w ≡ Ok b → (k : ℕ) → held n a k ≡ held n b k
 
 abbrev flat : List (List Place) → List Place
 flat ts = flat_map (λ t. t) ts
 
 alike_same : (n : ℕ) (o w : Outcome (List Place)) → o ≡ w → Alike n o w
 alike_same n o w e =
-    record { number = ap number e; held = λ a b p q k. let y : given a ≡ given b = sym p ∙ e ∙ q in let z : a ≡ b = cc in ap (λ (x : List Place). held n x k) z }
+    record { refusal = ap silent e; held = λ a b p q k. let y : Ok a ≡ Ok b = sym p ∙ e ∙ q in let z : a ≡ b = cc in ap (λ (x : List Place). held n x k) z }
 
 alike_map : (n : ℕ) (e : Outcome (List (List Place))) (f g : List (List Place) → List Place) → ((ts : List (List Place)) (k : ℕ) → held n (f ts) k ≡ held n (g ts) k)
-    → (o : Outcome (List Place)) → Alike n o (e >>= λ ts. given (f ts)) → Alike n o (e >>= λ ts. given (g ts))
-alike_map n (refused r) f g h o a = a
-alike_map n (given ts) f g h o a =
-    record { number = a.number; held = λ x y p q k. let z : g ts ≡ y = cc in a.held x (f ts) p refl k ∙ h ts k ∙ ap (λ (w : List Place). held n w k) z }
+    → (o : Outcome (List Place)) → Alike n o (e >>= λ ts. Ok (f ts)) → Alike n o (e >>= λ ts. Ok (g ts))
+alike_map n (Err r) f g h o a = a
+alike_map n (Ok ts) f g h o a =
+    record { refusal = a.refusal; held = λ x y p q k. let z : g ts ≡ y = cc in a.held x (f ts) p refl k ∙ h ts k ∙ ap (λ (w : List Place). held n w k) z }
 
-alike_cons : (n : ℕ) (v : Place) (e : Outcome (List (List Place))) (f : List (List Place) → List Place) (o : Outcome (List Place)) → Alike n o (e >>= λ ts. given (f ts))
-    → Alike n (o >>= λ hs. given (v ∷ hs)) (e >>= λ ts. given (v ∷ f ts))
-alike_cons n v e f (refused r) a =
-    record { number = a.number ∙ number_then e f ∙ sym (number_then e (λ ts. v ∷ f ts)); held = λ x y p q k. absurd (refused_given p) }
-alike_cons n v (refused r) f (given hs) a = record { number = a.number; held = λ x y p q k. absurd (refused_given q) }
-alike_cons n v (given ts) f (given hs) a =
+alike_cons : (n : ℕ) (v : Place) (e : Outcome (List (List Place))) (f : List (List Place) → List Place) (o : Outcome (List Place)) → Alike n o (e >>= λ ts. Ok (f ts))
+    → Alike n (o >>= λ hs. Ok (v ∷ hs)) (e >>= λ ts. Ok (v ∷ f ts))
+alike_cons n v e f (Err r) a =
+    record { refusal = a.refusal ∙ silent_map e f ∙ sym (silent_map e (λ ts. v ∷ f ts)); held = λ x y p q k. absurd (refused_given p) }
+alike_cons n v (Err r) f (Ok hs) a = record { refusal = a.refusal; held = λ x y p q k. absurd (refused_given q) }
+alike_cons n v (Ok ts) f (Ok hs) a =
     record {
-      number = refl;
+      refusal = refl;
       held = λ x y p q k.
           let s : v ∷ hs ≡ x = cc in
           let t : v ∷ f ts ≡ y = cc in
@@ -124,9 +126,9 @@ alike_cons n v (given ts) f (given hs) a =
     }
 
 bind_map : (e : Outcome (List (List Place))) (t : List (List Place)) (g : List (List Place) → List Place)
-    → ((e >>= λ b. given (t ++ b)) >>= λ ts. given (g ts)) ≡ (e >>= λ b. given (g (t ++ b)))
-bind_map (refused r) t g = refl
-bind_map (given b) t g = refl
+    → ((e >>= λ b. Ok (t ++ b)) >>= λ ts. Ok (g ts)) ≡ (e >>= λ b. Ok (g (t ++ b)))
+bind_map (Err r) t g = refl
+bind_map (Ok b) t g = refl
 
 module _ (n : ℕ) (d : List ℕ) where
   abbrev line_on : Outcome (List Place) → ℕ → Outcome (List Place)
@@ -135,13 +137,13 @@ module _ (n : ℕ) (d : List ℕ) where
   abbrev rest : List ℕ → Outcome (List (List Place))
   rest xs = each (sectors_of n d) (filter live (map (entry_from d) xs))
 
-  lines_refused : (xs : List ℕ) (r : Refusal) → foldl line_on (refused r) xs ≡ refused r
+  lines_refused : (xs : List ℕ) (r : Refusal) → foldl line_on (Err r) xs ≡ Err r
   unfolding with_line
   lines_refused [] r = refl
   lines_refused (x ∷ xs) r = lines_refused xs r
 
   live_rest : (x : ℕ) (xs : List ℕ) → live (entry_from d x) ≡ true
-      → rest (x ∷ xs) ≡ (sectors_of n d (entry_from d x) >>= λ y. rest xs >>= λ ys. given (y ∷ ys))
+      → rest (x ∷ xs) ≡ (sectors_of n d (entry_from d x) >>= λ y. rest xs >>= λ ys. Ok (y ∷ ys))
   unfolding filter each
   live_rest x xs e = rw e refl
 
@@ -149,56 +151,56 @@ module _ (n : ℕ) (d : List ℕ) where
   unfolding filter
   dead_rest x xs e = rw e refl
 
-  live_line : (x : ℕ) (hs : List Place) → live (entry_from d x) ≡ true → line_on (given hs) x ≡ (sectors_of n d (entry_from d x) >>= λ t. given (hs ++ t))
+  live_line : (x : ℕ) (hs : List Place) → live (entry_from d x) ≡ true → line_on (Ok hs) x ≡ (sectors_of n d (entry_from d x) >>= λ t. Ok (hs ++ t))
   unfolding with_line line_sectors sectors_of
   live_line x hs e = rw e refl
 
-  dead_line : (x : ℕ) (hs : List Place) → live (entry_from d x) ≡ false → line_on (given hs) x ≡ given hs
+  dead_line : (x : ℕ) (hs : List Place) → live (entry_from d x) ≡ false → line_on (Ok hs) x ≡ Ok hs
   unfolding with_line line_sectors
-  dead_line x hs e = rw e (ap given (append-nil hs))
+  dead_line x hs e = rw e (ap Ok (append-nil hs))
 
-  fold_lines : (xs : List ℕ) (hs : List Place) → foldl line_on (given hs) xs ≡ (rest xs >>= λ ts. given (hs ++ flat ts))
+  fold_lines : (xs : List ℕ) (hs : List Place) → foldl line_on (Ok hs) xs ≡ (rest xs >>= λ ts. Ok (hs ++ flat ts))
   unfolding filter each flat_map
-  fold_lines [] hs = ap given (sym (append-nil hs))
+  fold_lines [] hs = ap Ok (sym (append-nil hs))
   fold_lines (x ∷ xs) hs =
       by_test (live (entry_from d x))
       (λ e. ap (λ (o : Outcome (List Place)). foldl line_on o xs) (live_line x hs e) ∙ one (λ l. fold_lines xs l) (sectors_of n d (entry_from d x))
-      ∙ sym (ap (λ (o : Outcome (List (List Place))). o >>= λ ts. given (hs ++ flat ts)) (live_rest x xs e)))
+      ∙ sym (ap (λ (o : Outcome (List (List Place))). o >>= λ ts. Ok (hs ++ flat ts)) (live_rest x xs e)))
       (λ e. ap (λ (o : Outcome (List Place)). foldl line_on o xs) (dead_line x hs e) ∙ fold_lines xs hs
-      ∙ sym (ap (λ (o : Outcome (List (List Place))). o >>= λ ts. given (hs ++ flat ts)) (dead_rest x xs e)))
+      ∙ sym (ap (λ (o : Outcome (List (List Place))). o >>= λ ts. Ok (hs ++ flat ts)) (dead_rest x xs e)))
     where
       two : (t : List Place) (o : Outcome (List (List Place)))
-          → (o >>= λ ts. given ((hs ++ t) ++ flat ts)) ≡ ((o >>= λ ys. given (t ∷ ys)) >>= λ ts. given (hs ++ flat ts))
-      two t (refused r) = refl
-      two t (given ys) = ap given (append_assoc hs t (flat ys))
+          → (o >>= λ ts. Ok ((hs ++ t) ++ flat ts)) ≡ ((o >>= λ ys. Ok (t ∷ ys)) >>= λ ts. Ok (hs ++ flat ts))
+      two t (Err r) = refl
+      two t (Ok ys) = ap Ok (append_assoc hs t (flat ys))
 
-      one : ((l : List Place) → foldl line_on (given l) xs ≡ (rest xs >>= λ ts. given (l ++ flat ts))) → (s : Outcome (List Place))
-          → foldl line_on (s >>= λ t. given (hs ++ t)) xs ≡ ((s >>= λ y. rest xs >>= λ ys. given (y ∷ ys)) >>= λ ts. given (hs ++ flat ts))
-      one i (refused r) = lines_refused xs r
-      one i (given t) = i (hs ++ t) ∙ two t (rest xs)
+      one : ((l : List Place) → foldl line_on (Ok l) xs ≡ (rest xs >>= λ ts. Ok (l ++ flat ts))) → (s : Outcome (List Place))
+          → foldl line_on (s >>= λ t. Ok (hs ++ t)) xs ≡ ((s >>= λ y. rest xs >>= λ ys. Ok (y ∷ ys)) >>= λ ts. Ok (hs ++ flat ts))
+      one i (Err r) = lines_refused xs r
+      one i (Ok t) = i (hs ++ t) ∙ two t (rest xs)
 
   -- a page
-  page_is_lem : (p : Place) (hs : List Place) → with_page n d (given hs) p ≡ (each (sectors_of n d) (entries_of n d p) >>= λ ts. given ((hs ++ p ∷ []) ++ flat ts))
+  page_is_lem : (p : Place) (hs : List Place) → with_page n d (Ok hs) p ≡ (each (sectors_of n d) (entries_of n d p) >>= λ ts. Ok ((hs ++ p ∷ []) ++ flat ts))
   unfolding with_page with_lines entries_of tab
   page_is_lem p hs =
       fold_lines
       (tab (λ i. start n p + (11 + 35 * i)) 7)
       (hs ++ p ∷ [])
 
-  pages_refused : (ps : List Place) (r : Refusal) → foldl (with_page n d) (refused r) ps ≡ refused r
+  pages_refused : (ps : List Place) (r : Refusal) → foldl (with_page n d) (Err r) ps ≡ Err r
   unfolding with_page with_lines with_line
   pages_refused [] r = refl
   pages_refused (p ∷ ps) r = pages_refused ps r
 
   pages_alike : (ps : List Place) (hs : List Place)
-      → Alike n (foldl (with_page n d) (given hs) ps) (each (sectors_of n d) (flat_map (entries_of n d) ps) >>= λ ts. given (hs ++ (ps ++ flat ts)))
+      → Alike n (foldl (with_page n d) (Ok hs) ps) (each (sectors_of n d) (flat_map (entries_of n d) ps) >>= λ ts. Ok (hs ++ (ps ++ flat ts)))
   unfolding flat_map each
-  pages_alike [] hs = alike_same n (given hs) (given (hs ++ [])) (ap given (sym (append-nil hs)))
+  pages_alike [] hs = alike_same n (Ok hs) (Ok (hs ++ [])) (ap Ok (sym (append-nil hs)))
   pages_alike (p ∷ ps) hs =
-      subst (λ (o : Outcome (List Place)). Alike n (foldl (with_page n d) o ps) (each (sectors_of n d) (entries_of n d p ++ flat_map (entries_of n d) ps) >>= λ ts. given (hs ++ (p ∷ ps ++ flat ts))))
+      subst (λ (o : Outcome (List Place)). Alike n (foldl (with_page n d) o ps) (each (sectors_of n d) (entries_of n d p ++ flat_map (entries_of n d) ps) >>= λ ts. Ok (hs ++ (p ∷ ps ++ flat ts))))
       (sym (page_is_lem p hs))
       (subst
-      (λ (o : Outcome (List (List Place))). Alike n (foldl (with_page n d) (each (sectors_of n d) (entries_of n d p) >>= λ ts. given ((hs ++ p ∷ []) ++ flat ts)) ps) (o >>= λ ts. given (hs ++ (p ∷ ps ++ flat ts))))
+      (λ (o : Outcome (List (List Place))). Alike n (foldl (with_page n d) (each (sectors_of n d) (entries_of n d p) >>= λ ts. Ok ((hs ++ p ∷ []) ++ flat ts)) ps) (o >>= λ ts. Ok (hs ++ (p ∷ ps ++ flat ts))))
       (sym (each_append (sectors_of n d) (entries_of n d p) (flat_map (entries_of n d) ps)))
       (go (λ l. pages_alike ps l) (each (sectors_of n d) (entries_of n d p))))
     where
@@ -217,13 +219,13 @@ module _ (n : ℕ) (d : List ℕ) where
           let b₄ : held n (flat (t ++ b)) k ≡ held n (flat t) k + held n (flat b) k = ap (λ (x : List Place). held n x k) (flat_map_append (λ t. t) t b) ∙ held_append n k (flat t) (flat b) in
           omega arith
 
-      go : ((l : List Place) → Alike n (foldl (with_page n d) (given l) ps) (tail >>= λ ts. given (l ++ (ps ++ flat ts)))) → (e : Outcome (List (List Place)))
-          → Alike n (foldl (with_page n d) (e >>= λ ts. given ((hs ++ p ∷ []) ++ flat ts)) ps)
-          ((e >>= λ f. tail >>= λ b. given (f ++ b)) >>= λ ts. given (hs ++ (p ∷ ps ++ flat ts)))
-      go i (refused r) = alike_same n (foldl (with_page n d) (refused r) ps) (refused r) (pages_refused ps r)
-      go i (given t) =
-          subst (Alike n (foldl (with_page n d) (given ((hs ++ p ∷ []) ++ flat t)) ps)) (sym (bind_map tail t (λ ts. hs ++ (p ∷ ps ++ flat ts))))
-          (alike_map n tail (λ b. ((hs ++ p ∷ []) ++ flat t) ++ (ps ++ flat b)) (λ b. hs ++ (p ∷ ps ++ flat (t ++ b))) (sums t) (foldl (with_page n d) (given ((hs ++ p ∷ []) ++ flat t)) ps)
+      go : ((l : List Place) → Alike n (foldl (with_page n d) (Ok l) ps) (tail >>= λ ts. Ok (l ++ (ps ++ flat ts)))) → (e : Outcome (List (List Place)))
+          → Alike n (foldl (with_page n d) (e >>= λ ts. Ok ((hs ++ p ∷ []) ++ flat ts)) ps)
+          ((e >>= λ f. tail >>= λ b. Ok (f ++ b)) >>= λ ts. Ok (hs ++ (p ∷ ps ++ flat ts)))
+      go i (Err r) = alike_same n (foldl (with_page n d) (Err r) ps) (Err r) (pages_refused ps r)
+      go i (Ok t) =
+          subst (Alike n (foldl (with_page n d) (Ok ((hs ++ p ∷ []) ++ flat t)) ps)) (sym (bind_map tail t (λ ts. hs ++ (p ∷ ps ++ flat ts))))
+          (alike_map n tail (λ b. ((hs ++ p ∷ []) ++ flat t) ++ (ps ++ flat b)) (λ b. hs ++ (p ∷ ps ++ flat (t ++ b))) (sums t) (foldl (with_page n d) (Ok ((hs ++ p ∷ []) ++ flat t)) ps)
           (i ((hs ++ p ∷ []) ++ flat t)))
 
   all_alike : Alike n (all_met n d) (holders n d)
@@ -231,31 +233,29 @@ module _ (n : ℕ) (d : List ℕ) where
   all_alike = go (readable n d) (walk n (sound_page n d) (next_page n d) (sectors n + 1) [] (first_page n d))
     where
       go : (o : Outcome (Unit {0})) (w : Outcome (List Place))
-          → Alike n (o >> (((w >>= λ ps. given (foldl (with_page n d) (given []) ps)) >>= λ o. o) >>= λ hs. given (vtoc ∷ hs)))
-          ((o >> w) >>= λ ps. each (sectors_of n d) (flat_map (entries_of n d) ps) >>= λ ts. given (vtoc ∷ ps ++ flat_map (λ t. t) ts))
-      go (refused r) w = alike_same n (refused r) (refused r) refl
-      go (given u) (refused r) = alike_same n (refused r) (refused r) refl
-      go (given u) (given ps) =
-          alike_cons n vtoc (each (sectors_of n d) (flat_map (entries_of n d) ps)) (λ ts. ps ++ flat ts) (foldl (with_page n d) (given []) ps) (pages_alike ps [])
+          → Alike n (o >> (((w >>= λ ps. Ok (foldl (with_page n d) (Ok []) ps)) >>= λ o. o) >>= λ hs. Ok (vtoc ∷ hs)))
+          ((o >> w) >>= λ ps. each (sectors_of n d) (flat_map (entries_of n d) ps) >>= λ ts. Ok (vtoc ∷ ps ++ flat_map (λ t. t) ts))
+      go (Err r) w = alike_same n (Err r) (Err r) refl
+      go (Ok u) (Err r) = alike_same n (Err r) (Err r) refl
+      go (Ok u) (Ok ps) =
+          alike_cons n vtoc (each (sectors_of n d) (flat_map (entries_of n d) ps)) (λ ts. ps ++ flat ts) (foldl (with_page n d) (Ok []) ps) (pages_alike ps [])
 
 -- ---- the report
-module _ (n : ℕ) (d c : List ℕ) (k : ℕ) (t : Tallied n (all_met n d) (replicate 560 0) c k) where
-  pub report_refused : (k ≡ 0 → ⊥) → (v : HolderCounts) → v ≡ no_holders k → v ≡ reported (holding n d)
+module _ (n : ℕ) (d c : List ℕ) (k : Outcome (Unit {0})) (t : Tallied n (all_met n d) (replicate 560 0) c k) where
+  pub report_refused : (v : Outcome HolderCounts) (e : Refusal) → v ≡ Err e → k ≡ Err e → v ≡ holding n d
   unfolding holding
-  report_refused h v e = e ∙ go (holders n d) (t.is ∙ (all_alike n d).number)
+  report_refused v e z h = z ∙ go (holders n d) (sym h ∙ t.is ∙ (all_alike n d).refusal)
     where
-      go : (o : Outcome (List Place)) → k ≡ number o
-          → no_holders k
-          ≡ reported (o >>= λ hs. given (numbers_of n d hs))
-      go (refused r) q = rw q refl
-      go (given hs) q = absurd (h q)
+      go : (o : Outcome (List Place)) → Err e ≡ silent o → Err e ≡ (o >>= λ hs. Ok (numbers_of n d hs))
+      go (Err r) q = let y : e ≡ r = cc in ap Err y
+      go (Ok hs) q = absurd (refused_given q)
 
-  module _ (z : k ≡ 0) (few : n ≤ 16) where
-    met : (hs : List Place) × (all_met n d ≡ given hs)
-    met = number_0 (all_met n d) (sym t.is ∙ z)
+  module _ (z : k ≡ Ok tt) (few : n ≤ 16) where
+    met : (hs : List Place) × (all_met n d ≡ Ok hs)
+    met = silent_given (all_met n d) (sym t.is ∙ z)
 
-    has : (hs : List Place) × (holders n d ≡ given hs)
-    has = number_0 (holders n d) (sym (t.is ∙ (all_alike n d).number) ∙ z)
+    has : (hs : List Place) × (holders n d ≡ Ok hs)
+    has = silent_given (holders n d) (sym (t.is ∙ (all_alike n d).refusal) ∙ z)
 
     at : (j : ℕ) → j < sectors n → get_or c j 0 ≡ up 0 (held n has.0 j)
     at j h =
@@ -282,22 +282,20 @@ module _ (n : ℕ) (d c : List ℕ) (k : ℕ) (t : Tallied n (all_met n d) (repl
 
     pub report_given : (a b s f : ℕ) → a ≡ passing (is_held c 0) (35 * n) → b ≡ passing (is_held c 1) (35 * n) → s ≡ passing (is_held c 2) (35 * n)
         → f ≡ passing (is_free n d c) (35 * n)
-        → record { refusal = 0; unheld = a; held_once = b; shared = s; held_free = f; clean = eqb s 0 && eqb f 0 } ≡ reported (holding n d)
+        → Ok (record { unheld = a; held_once = b; shared = s; held_free = f; clean = eqb s 0 && eqb f 0 }) ≡ holding n d
     unfolding holding clean
     report_given a b s f ea eb es ef =
-        let g : reported (holding n d)
-        ≡ record { refusal = 0; unheld = unheld n has.0; held_once = held_once n has.0; shared = shared n has.0; held_free = held_free n d has.0; clean = clean n d has.0 } =
-        ap (λ (o : Outcome (List Place)). reported (o >>= λ hs. given (numbers_of n d hs))) has.1 in
         let a' : a ≡ unheld n has.0 = ea ∙ unheld_is in
         let b' : b ≡ held_once n has.0 = eb ∙ once_is in
         let s' : s ≡ shared n has.0 = es ∙ shared_is in
         let f' : f ≡ held_free n d has.0 = ef ∙ free_is in
-        (λ j. record { refusal = 0; unheld = a' j; held_once = b' j; shared = s' j; held_free = f' j; clean = eqb (s' j) 0 && eqb (f' j) 0 }) ∙ sym g
+        (λ j. Ok (record { unheld = a' j; held_once = b' j; shared = s' j; held_free = f' j; clean = eqb (s' j) 0 && eqb (f' j) 0 }))
+        ∙ sym (ap (λ (o : Outcome (List Place)). o >>= λ hs. Ok (numbers_of n d hs)) has.1)
 
 pub few_sectors : (n : ℕ) → n ≤ 16 → 35 * n ≤ 560
 few_sectors n h = omega arith
 
-pub per_report : (n : ℕ) (d : List ℕ) (v : HolderCounts) → n ≡ per_of d → v ≡ reported (holding n d) → v ≡ reported (holding (per_of d) d)
-per_report n d v e h = h ∙ ap (λ (m : ℕ). reported (holding m d)) e
+pub per_report : (n : ℕ) (d : List ℕ) (v : Outcome HolderCounts) → n ≡ per_of d → v ≡ holding n d → v ≡ holding (per_of d) d
+per_report n d v e h = h ∙ ap (λ (m : ℕ). holding m d) e
 
 pub ruleset reports = (per_report, report_refused, report_given, few_sectors, rules)

@@ -10,7 +10,7 @@ use lib.ListN.{length, get_or, take, drop}
 use lib.Seq.{get_or-take, get_or-drop}
 use lib.Dec.{eqb, ltb}
 use borrow.Author.Rules.{rules}
-use borrow.Author.Tests.{eqb-true}
+use borrow.Author.Tests.{eqb-true, le-ltb}
 use Rattle.lists.specs.Select.{passing}
 use Rattle.lists.proofs.Passing.{passing_suc, passing_same, passing_none, passing_add, passing_zero, all_passing}
 use Rattle.lists.proofs.Split.{clash}
@@ -62,12 +62,12 @@ pub ruleset counts = (counted_none, counted_done, counted_fits, held_more, held_
 
 -- ---- a sector in the map
 -- a number of 16 bits has no bit from 16 on
-pub bit_none : (w k : ℕ) → w < 65536 → 16 ≤ k → false ≡ eqb (bit k w) 1
+pub bit_none : (w k : ℕ) → w < 65536 → 16 ≤ k → ltb k 16 ≡ eqb (bit k w) 1
 unfolding bit
 bit_none w k h l =
     let p : 2 ^ 16 ≤ 2 ^ k = pow-le-pow_right {n = 2} (omega arith) l in
     let z : w / 2 ^ k ≡ 0 = div-eq_of_lt (omega arith) in
-    rw z refl
+    rw (z, le-ltb k 16 l) refl
 
 pub bit_is : (w k : ℕ) → eqb (w / 2 ^ k % 2) 1 ≡ eqb (bit k w) 1
 unfolding bit

@@ -13,11 +13,12 @@ use borrow.Author.Rules.{rules}
 use Rattle.lists.specs.Select.{all}
 use Rattle.lists.proofs.Split.{by_test, and_assoc}
 use Rattle.lists.proofs.Select.{all_append, all_one}
+use Rattle.std.specs.Prelude.{Ok, Err}
 use Rattle.outcome.specs.declared.Refusal.{Refusal}
 use Rattle.outcome.specs.declared.Refusal.TheVariants.{OffDisc, Ring, CutLink, BadLetter}
-use Rattle.outcome.specs.Refusal.{code}
-use Rattle.outcome.specs.Outcome.{Outcome, refused, given, ◌>>=◌, ◌>>◌, number}
-use Rattle.outcome.proofs.Outcome.{refused_given, gives, map_refuses, number_0, number_then}
+use Rattle.outcome.specs.Outcome.{Outcome, ◌>>=◌, ◌>>◌, require}
+use Rattle.outcome.proofs.Outcome.{refused_given, gives, map_refuses}
+use Rattle.outcome.proofs.Silent.{silent, silent_map}
 use Rattle.disk.specs.declared.Place.{Place}
 use Rattle.disk.specs.Disk.{start, on_disk, byte_of, link_of}
 use Rattle.disk.specs.Vtoc.{vtoc, readable}
@@ -27,6 +28,11 @@ use Rattle.files.specs.Contents.{pair_at, pairs_of, whole_link, sound_list, next
 use Rattle.files.proofs.Runs.{behind, stop, next, none_behind}
 use Rattle.holders.specs.Holders.{with_pairs, sectors_from}
 use Rattle.holders.specs.Tally.{bump, bumps, Bumped, PairHeld, Paired, ListHeld, Tallied, Extends, line_sectors, with_line, with_lines, with_page, on_page, walk_held, met_from, all_met}
+
+-- what is not refused has a value
+pub silent_given : {A : Type 0} (o : Outcome A) → silent o ≡ Ok tt → (x : A) × (o ≡ Ok x)
+silent_given (Err r) e = absurd (refused_given e)
+silent_given (Ok x) e = (x, refl)
 
 -- ---- one place
 module _ (n : ℕ) (c : List ℕ) (p : Place) (s : ℕ) (e : s ≡ start n p) where
@@ -129,14 +135,14 @@ pub ruleset pairs = (paired_none, paired_long, paired_full, paired_stop, paired_
 
 -- ---- a refused step; any counts do
 module _ (n : ℕ) where
-  pub tallied_refused : (o : Outcome (List Place)) (r : Refusal) → o ≡ refused r → (a b : List ℕ) (k : ℕ) → k ≡ code r → Tallied n o a b k
+  pub tallied_refused : (o : Outcome (List Place)) (r : Refusal) → o ≡ Err r → (a b : List ℕ) (k : Outcome (Unit {0})) → k ≡ Err r → Tallied n o a b k
   tallied_refused o r e a b k q = record { is = q ∙ rw e refl; counts = λ hs z. absurd (refused_given (sym e ∙ z)) }
 
-  pub tallied_given : (o : Outcome (List Place)) (hs : List Place) → o ≡ given hs → (a b : List ℕ) (k : ℕ) → k ≡ 0 → b ≡ bumps n a hs → Tallied n o a b k
+  pub tallied_given : (o : Outcome (List Place)) (hs : List Place) → o ≡ Ok hs → (a b : List ℕ) (k : Outcome (Unit {0})) → k ≡ Ok tt → b ≡ bumps n a hs → Tallied n o a b k
   tallied_given o hs e a b k q h =
       record {
         is = q ∙ rw e refl;
-        counts = λ hs' z. let y : given hs ≡ given hs' = sym e ∙ z in let w : hs ≡ hs' = cc in h ∙ ap (bumps n a) w;
+        counts = λ hs' z. let y : Ok hs ≡ Ok hs' = sym e ∙ z in let w : hs ≡ hs' = cc in h ∙ ap (bumps n a) w;
       }
 
 -- ---- the lists of an entry
@@ -167,29 +173,29 @@ module _ (n : ℕ) (d : List ℕ) where
     abbrev walk_run : Outcome Run
     walk_run = made step (run true c₀) (list_walk n d first)
 
-    abbrev Goal : List ℕ → ℕ → Type 0
+    abbrev Goal : List ℕ → Outcome (Unit {0}) → Type 0
     Goal c r = Tallied n (sectors_from n d first) c₀ c r
 
     -- the walk's end, as the answer
-    ends_refused : (r : Refusal) → refused r ≡ walk_run → (c : List ℕ) (k : ℕ) → k ≡ code r → Goal c k
+    ends_refused : (r : Refusal) → Err r ≡ walk_run → (c : List ℕ) (k : Outcome (Unit {0})) → k ≡ Err r → Goal c k
     unfolding sectors_from
     ends_refused r e c k q = tallied_refused n (sectors_from n d first) r (rw (map_refuses (foldl step (run true c₀)) (list_walk n d first) (sym e)) refl) c₀ c k q
 
-    from_given : (ls : List Place) → list_walk n d first ≡ given ls → all (on_disk n) (flat_map (pairs_of n d) ls) ≡ true
-        → sectors_from n d first ≡ given (flat_map (with_pairs n d) ls)
+    from_given : (ls : List Place) → list_walk n d first ≡ Ok ls → all (on_disk n) (flat_map (pairs_of n d) ls) ≡ true
+        → sectors_from n d first ≡ Ok (flat_map (with_pairs n d) ls)
     unfolding sectors_from
     from_given ls h a = rw (h, a) refl
 
-    from_off : (ls : List Place) → list_walk n d first ≡ given ls → all (on_disk n) (flat_map (pairs_of n d) ls) ≡ false
-        → sectors_from n d first ≡ refused OffDisc
+    from_off : (ls : List Place) → list_walk n d first ≡ Ok ls → all (on_disk n) (flat_map (pairs_of n d) ls) ≡ false
+        → sectors_from n d first ≡ Err OffDisc
     unfolding sectors_from
     from_off ls h a = rw (h, a) refl
 
-    ends_given : (g : Bool) (c : List ℕ) → given (run g c) ≡ walk_run → (k : ℕ) → k ≡ cond g 0 3 → Goal c k
+    ends_given : (g : Bool) (c : List ℕ) → Ok (run g c) ≡ walk_run → (k : Outcome (Unit {0})) → k ≡ require g OffDisc → Goal c k
     ends_given g c e k q =
-        let w = gives (list_walk n d first) (λ ls. given (foldl step (run true c₀) ls)) (run g c) (sym e) in
+        let w = gives (list_walk n d first) (λ ls. Ok (foldl step (run true c₀) ls)) (run g c) (sym e) in
         let ls : List Place = w.0 in
-        let y : given (foldl step (run true c₀) ls) ≡ given (run g c) = w.2 in
+        let y : Ok (foldl step (run true c₀) ls) ≡ Ok (run g c) = w.2 in
         let z : run (all (on_disk n) (flat_map (pairs_of n d) ls)) (bumps n c₀ (flat_map (with_pairs n d) ls)) ≡ run g c = sym (steps_are true c₀ ls) ∙ cc in
         let a : all (on_disk n) (flat_map (pairs_of n d) ls) ≡ g = ap (λ (x : Run). x.good) z in
         let b : bumps n c₀ (flat_map (with_pairs n d) ls) ≡ c = ap (λ (x : Run). x.counts) z in
@@ -213,22 +219,22 @@ module _ (n : ℕ) (d : List ℕ) where
       pub listed_long : length c ≡ length c₀
       listed_long = i.long
 
-      pub listed_ring : most ≤ k → Goal c 4
-      listed_ring h = ends_refused Ring (sym (rest_full step n (sound_list n d) (next_list n d) (35 * n + 1) k (run good c) p (omega (arith, i.budget))) ∙ i.is) c 4 refl
+      pub listed_ring : most ≤ k → Goal c (Err Ring)
+      listed_ring h = ends_refused Ring (sym (rest_full step n (sound_list n d) (next_list n d) (35 * n + 1) k (run good c) p (omega (arith, i.budget))) ∙ i.is) c (Err Ring) refl
 
       module _ (h : k < most) (on : Bool) (o : on ≡ on_disk n p) where
         inside : k < 35 * n + 1
         inside = omega (arith, i.budget)
 
-        pub listed_off : on ≡ false → Goal c 3
-        listed_off z = ends_refused OffDisc (sym (rest_off step n (sound_list n d) (next_list n d) (35 * n + 1) k (run good c) p inside (sym o ∙ z)) ∙ i.is) c 3 refl
+        pub listed_off : on ≡ false → Goal c (Err OffDisc)
+        listed_off z = ends_refused OffDisc (sym (rest_off step n (sound_list n d) (next_list n d) (35 * n + 1) k (run good c) p inside (sym o ∙ z)) ∙ i.is) c (Err OffDisc) refl
 
         module _ (y : on ≡ true) (b : Bool) (w : b ≡ whole_link n d p) where
-          pub listed_cut : b ≡ false → Goal c 5
+          pub listed_cut : b ≡ false → Goal c (Err CutLink)
           unfolding sound_list
           listed_cut z =
               ends_refused CutLink
-              (sym (rest_bad step n (sound_list n d) (next_list n d) (35 * n + 1) k (run good c) p inside CutLink (sym o ∙ y) (rw (← w, z) refl)) ∙ i.is) c 5 refl
+              (sym (rest_bad step n (sound_list n d) (next_list n d) (35 * n + 1) k (run good c) p inside CutLink (sym o ∙ y) (rw (← w, z) refl)) ∙ i.is) c (Err CutLink) refl
 
     module _ (most k : ℕ) (good : Bool) (c : List ℕ) (p : Place) (i : Listed most k good c p) (g : Bool) (c₂ : List ℕ) (t : ListHeld n d p c c₂ g)
         (h : k < most) (on : Bool) (o : on ≡ on_disk n p) (y : on ≡ true) (b : Bool) (w : b ≡ whole_link n d p) (z : b ≡ true)
@@ -236,18 +242,18 @@ module _ (n : ℕ) (d : List ℕ) where
       within : k < 35 * n + 1
       within = omega (arith, i.budget)
 
-      sound : sound_list n d p ≡ given tt
+      sound : sound_list n d p ≡ Ok tt
       unfolding sound_list
       sound = rw (← w, z) refl
 
       stepped : run (good && g) c₂ ≡ step (run good c) p
       stepped = rw (t.is, t.good) refl
 
-      pub listed_last : l ≡ true → (r : ℕ) → r ≡ cond (good && g) 0 3 → Goal c₂ r
+      pub listed_last : l ≡ true → (r : Outcome (Unit {0})) → r ≡ require (good && g) OffDisc → Goal c₂ r
       unfolding next_list
       listed_last x r q =
           ends_given (good && g) c₂
-          (ap given stepped
+          (ap Ok stepped
           ∙ sym (rest_end step n (sound_list n d) (next_list n d) (35 * n + 1) k (run good c) p within (sym o ∙ y, sound) (rw (← e, x) refl)) ∙ i.is) r q
 
       pub listed_more : l ≡ false → (s : Place) → s ≡ link_of n d p → Listed most (k + 1) (good && g) c₂ s
@@ -266,55 +272,56 @@ module _ (n : ℕ) (d : List ℕ) where
 pub ruleset listings = (listed_none, listed_long, listed_ring, listed_off, listed_cut, listed_last, listed_more, not-true, not-false, rules)
 
 -- ---- an entry
-joined : (n : ℕ) (o : Outcome (List Place)) (hs : List Place) (first c c' : List ℕ) (r : ℕ) → c ≡ bumps n first hs → Tallied n o c c' r
-    → Tallied n (o >>= λ t. given (hs ++ t)) first c' r
+joined : (n : ℕ) (o : Outcome (List Place)) (hs : List Place) (first c c' : List ℕ) (r : Outcome (Unit {0})) → c ≡ bumps n first hs → Tallied n o c c' r
+    → Tallied n (o >>= λ t. Ok (hs ++ t)) first c' r
 joined n o hs first c c' r e t =
     record {
-      is = t.is ∙ sym (number_then o (λ x. hs ++ x));
+      is = t.is ∙ sym (silent_map o (λ x. hs ++ x));
       counts = λ all z.
-          let g = gives o (λ x. given (hs ++ x)) all z in
-          let y : given (hs ++ g.0) ≡ given all = g.2 in
+          let g = gives o (λ x. Ok (hs ++ x)) all z in
+          let y : Ok (hs ++ g.0) ≡ Ok all = g.2 in
           let w : hs ++ g.0 ≡ all = cc in
           t.counts g.0 g.1 ∙ ap (λ (x : List ℕ). bumps n x g.0) e ∙ sym (bumps_append n first hs g.0) ∙ ap (bumps n first) w;
     }
 
-module _ (n : ℕ) (d : List ℕ) (x : ℕ) (c : List ℕ) (q : ℕ) where
-  pub entry_refused : (q ≡ 0 → ⊥) → Extends n (with_line n d x) c c q q
+module _ (n : ℕ) (d : List ℕ) (x : ℕ) (c : List ℕ) (q : Outcome (Unit {0})) where
+  -- where something before was refused, nothing is counted
+  pub entry_refused : (r : Outcome (Unit {0})) (e : Refusal) → r ≡ Err e → q ≡ Err e → Extends n (with_line n d x) c c q r
   unfolding with_line
-  entry_refused h = record { steps = λ o first t. go o first t }
+  entry_refused r e z h = record { steps = λ o first t. rw z (go o first t.is) }
     where
-      go : (o : Outcome (List Place)) (first : List ℕ) → Tallied n o first c q → Tallied n (with_line n d x o) first c q
-      go (refused r) first t = tallied_refused n (with_line n d x (refused r)) r refl first c q t.is
-      go (given hs) first t = absurd (h t.is)
+      go : (o : Outcome (List Place)) (first : List ℕ) → q ≡ silent o → Tallied n (with_line n d x o) first c (Err e)
+      go (Err a) first k = let y : Err e ≡ Err a = sym h ∙ k in tallied_refused n (Err a) a refl first c (Err e) y
+      go (Ok hs) first k = absurd (refused_given (sym h ∙ k))
 
   -- from no refusal on
-  onward : (c' : List ℕ) (r : ℕ) → q ≡ 0 → Tallied n (line_sectors n d x) c c' r → Extends n (with_line n d x) c c' q r
+  onward : (c' : List ℕ) (r : Outcome (Unit {0})) → q ≡ Ok tt → Tallied n (line_sectors n d x) c c' r → Extends n (with_line n d x) c c' q r
   unfolding with_line
   onward c' r z u = record { steps = go }
     where
       go : (o : Outcome (List Place)) (first : List ℕ) → Tallied n o first c q → Tallied n (with_line n d x o) first c' r
       go o first t =
-          let g = number_0 o (sym t.is ∙ z) in
-          let e : with_line n d x o ≡ (line_sectors n d x >>= λ s. given (g.0 ++ s)) = ap (λ (w : Outcome (List Place)). w >>= λ hs. line_sectors n d x >>= λ s. given (hs ++ s)) g.1 in
+          let g = silent_given o (sym t.is ∙ z) in
+          let e : with_line n d x o ≡ (line_sectors n d x >>= λ s. Ok (g.0 ++ s)) = ap (λ (w : Outcome (List Place)). w >>= λ hs. line_sectors n d x >>= λ s. Ok (hs ++ s)) g.1 in
           let j = joined n (line_sectors n d x) g.0 first c c' r (t.counts g.0 g.1) u in
           rw e j
 
-  pub entry_live : (l : Place) (c' : List ℕ) (r : ℕ) → Tallied n (sectors_from n d l) c c' r → q ≡ 0 → (a : ℕ) (b : Bool) → a ≡ get_or d x 0 → b ≡ valid_file a → b ≡ true
+  pub entry_live : (l : Place) (c' : List ℕ) (r : Outcome (Unit {0})) → Tallied n (sectors_from n d l) c c' r → q ≡ Ok tt → (a : ℕ) (b : Bool) → a ≡ get_or d x 0 → b ≡ valid_file a → b ≡ true
       → l ≡ (entry_from d x).list → Extends n (with_line n d x) c c' q r
   unfolding line_sectors
   entry_live l c' r u z a b e v y w =
       let i : line_sectors n d x ≡ sectors_from n d (entry_from d x).list = rw (← e, ← v, y) refl in
       onward c' r z (subst (λ (s : Outcome (List Place)). Tallied n s c c' r) (ap (sectors_from n d) w ∙ sym i) u)
 
-  pub entry_dead : q ≡ 0 → (a : ℕ) (b : Bool) → a ≡ get_or d x 0 → b ≡ valid_file a → b ≡ false → Extends n (with_line n d x) c c q 0
+  pub entry_dead : q ≡ Ok tt → (a : ℕ) (b : Bool) → a ≡ get_or d x 0 → b ≡ valid_file a → b ≡ false → Extends n (with_line n d x) c c q (Ok tt)
   unfolding line_sectors
-  entry_dead z a b e v y = onward c 0 z (tallied_given n (line_sectors n d x) [] (rw (← e, ← v, y) refl) c c 0 refl (sym (bumps_none n c)))
+  entry_dead z a b e v y = onward c (Ok tt) z (tallied_given n (line_sectors n d x) [] (rw (← e, ← v, y) refl) c c (Ok tt) refl (sym (bumps_none n c)))
 
 pub ruleset entries = (entry_refused, entry_live, entry_dead, not-true, not-false, rules)
 
 -- ---- a page
-module _ (n : ℕ) (d : List ℕ) (p : Place) (c₁ : List ℕ) (q : ℕ) where
-  pub record Lines (i : ℕ) (c : List ℕ) (r : ℕ) : Type 0 where
+module _ (n : ℕ) (d : List ℕ) (p : Place) (c₁ : List ℕ) (q : Outcome (Unit {0})) where
+  pub record Lines (i : ℕ) (c : List ℕ) (r : Outcome (Unit {0})) : Type 0 where
     pub count : i ≤ 7
     pub long : length c ≡ length c₁
     pub extends : Extends n (with_lines n d p i) c₁ c q r
@@ -323,11 +330,11 @@ module _ (n : ℕ) (d : List ℕ) (p : Place) (c₁ : List ℕ) (q : ℕ) where
   unfolding with_lines
   lines_none = record { count = omega arith; long = refl; extends = record { steps = λ o first t. t } }
 
-  module _ (i : ℕ) (c : List ℕ) (r : ℕ) (l : Lines i c r) where
+  module _ (i : ℕ) (c : List ℕ) (r : Outcome (Unit {0})) (l : Lines i c r) where
     pub lines_long : length c ≡ length c₁
     lines_long = l.long
 
-    pub lines_more : (y : ℕ) (c' : List ℕ) (r' : ℕ) → Extends n (with_line n d y) c c' r r' → length c' ≡ length c → i < 7 → y ≡ start n p + (11 + 35 * i) → Lines (i + 1) c' r'
+    pub lines_more : (y : ℕ) (c' : List ℕ) (r' : Outcome (Unit {0})) → Extends n (with_line n d y) c c' r r' → length c' ≡ length c → i < 7 → y ≡ start n p + (11 + 35 * i) → Lines (i + 1) c' r'
     unfolding with_lines
     lines_more y c' r' u m h e =
         record {
@@ -342,12 +349,12 @@ module _ (n : ℕ) (d : List ℕ) (p : Place) (c₁ : List ℕ) (q : ℕ) where
         let e : i ≡ 7 = omega (arith, l.count) in
         record {
           steps = λ o first t.
-              let w = l.extends.steps (o >>= λ hs. given (hs ++ p ∷ [])) first
+              let w = l.extends.steps (o >>= λ hs. Ok (hs ++ p ∷ [])) first
               (record {
-                is = t.is ∙ sym (number_then o (λ hs. hs ++ p ∷ []));
+                is = t.is ∙ sym (silent_map o (λ hs. hs ++ p ∷ []));
                 counts = λ all z.
-                    let g = gives o (λ hs. given (hs ++ p ∷ [])) all z in
-                    let y : given (g.0 ++ p ∷ []) ≡ given all = g.2 in
+                    let g = gives o (λ hs. Ok (hs ++ p ∷ [])) all z in
+                    let y : Ok (g.0 ++ p ∷ []) ≡ Ok all = g.2 in
                     let v : g.0 ++ p ∷ [] ≡ all = cc in
                     u.is ∙ ap (λ (x : List ℕ). bump n x p) (t.counts g.0 g.1) ∙ sym (bumps_append n first g.0 (p ∷ []) ∙ bumps_more n _ p [] ∙ bumps_none n _)
                     ∙ ap (bumps n first) v;
@@ -359,10 +366,10 @@ pub ruleset lines = (lines_none, lines_long, lines_more, lines_done, rules)
 
 -- ---- the pages
 module _ (n : ℕ) (d : List ℕ) (first : Place) (c₀ : List ℕ) where
-  abbrev Aim : List ℕ → ℕ → Type 0
+  abbrev Aim : List ℕ → Outcome (Unit {0}) → Type 0
   Aim c r = Tallied n (met_from n d first) c₀ c r
 
-  pub record Paging (most k r : ℕ) (c : List ℕ) (p : Place) : Type 0 where
+  pub record Paging (most k : ℕ) (r : Outcome (Unit {0})) (c : List ℕ) (p : Place) : Type 0 where
     pub budget : most ≡ 35 * n + 1
     pub count : k ≤ most
     pub long : length c ≡ length c₀
@@ -370,45 +377,45 @@ module _ (n : ℕ) (d : List ℕ) (first : Place) (c₀ : List ℕ) where
     pub tallied : Tallied n met c₀ c r
     pub is : rest (with_page n d) n (sound_page n d) (next_page n d) (35 * n + 1) k met p ≡ walk_held n d first
 
-  pub paging_none : (most : ℕ) → most ≡ 35 * n + 1 → Paging most 0 0 c₀ first
+  pub paging_none : (most : ℕ) → most ≡ 35 * n + 1 → Paging most 0 (Ok tt) c₀ first
   unfolding walk_held
   paging_none most e =
       record {
         budget = e;
         count = omega arith;
         long = refl;
-        met = given [];
-        tallied = tallied_given n (given []) [] refl c₀ c₀ 0 refl (sym (bumps_none n c₀));
-        is = rest_start (with_page n d) n (sound_page n d) (next_page n d) (35 * n + 1) (given []) first;
+        met = Ok [];
+        tallied = tallied_given n (Ok []) [] refl c₀ c₀ (Ok tt) refl (sym (bumps_none n c₀));
+        is = rest_start (with_page n d) n (sound_page n d) (next_page n d) (35 * n + 1) (Ok []) first;
       }
 
-  ended : (r : Refusal) → refused r ≡ walk_held n d first → (c : List ℕ) (k : ℕ) → k ≡ code r → Aim c k
+  ended : (r : Refusal) → Err r ≡ walk_held n d first → (c : List ℕ) (k : Outcome (Unit {0})) → k ≡ Err r → Aim c k
   unfolding met_from
   ended r e c k q = tallied_refused n (met_from n d first) r (sym (ap (λ (w : Outcome (Outcome (List Place))). w >>= λ o. o) e)) c₀ c k q
 
-  module _ (most k r : ℕ) (c : List ℕ) (p : Place) (i : Paging most k r c p) where
+  module _ (most k : ℕ) (r : Outcome (Unit {0})) (c : List ℕ) (p : Place) (i : Paging most k r c p) where
     pub paging_long : length c ≡ length c₀
     paging_long = i.long
 
-    pub paging_ring : most ≤ k → Aim c 4
-    paging_ring h = ended Ring (sym (rest_full (with_page n d) n (sound_page n d) (next_page n d) (35 * n + 1) k i.met p (omega (arith, i.budget))) ∙ i.is) c 4 refl
+    pub paging_ring : most ≤ k → Aim c (Err Ring)
+    paging_ring h = ended Ring (sym (rest_full (with_page n d) n (sound_page n d) (next_page n d) (35 * n + 1) k i.met p (omega (arith, i.budget))) ∙ i.is) c (Err Ring) refl
 
     module _ (h : k < most) (on : Bool) (o : on ≡ on_disk n p) where
       in_budget : k < 35 * n + 1
       in_budget = omega (arith, i.budget)
 
-      pub paging_off : on ≡ false → Aim c 3
-      paging_off z = ended OffDisc (sym (rest_off (with_page n d) n (sound_page n d) (next_page n d) (35 * n + 1) k i.met p in_budget (sym o ∙ z)) ∙ i.is) c 3 refl
+      pub paging_off : on ≡ false → Aim c (Err OffDisc)
+      paging_off z = ended OffDisc (sym (rest_off (with_page n d) n (sound_page n d) (next_page n d) (35 * n + 1) k i.met p in_budget (sym o ∙ z)) ∙ i.is) c (Err OffDisc) refl
 
-      pub paging_bad : on ≡ true → (g : Bool) → g ≡ plain_names (entries_of n d p) → g ≡ false → Aim c 6
+      pub paging_bad : on ≡ true → (g : Bool) → g ≡ plain_names (entries_of n d p) → g ≡ false → Aim c (Err BadLetter)
       unfolding sound_page
       paging_bad y g s z =
           ended BadLetter
-          (sym (rest_bad (with_page n d) n (sound_page n d) (next_page n d) (35 * n + 1) k i.met p in_budget BadLetter (sym o ∙ y) (rw (← s, z) refl)) ∙ i.is) c 6 refl
+          (sym (rest_bad (with_page n d) n (sound_page n d) (next_page n d) (35 * n + 1) k i.met p in_budget BadLetter (sym o ∙ y) (rw (← s, z) refl)) ∙ i.is) c (Err BadLetter) refl
 
-    module _ (c' : List ℕ) (r' : ℕ) (u : Extends n (on_page n d p) c c' r r') (h : k < most) (on : Bool) (o : on ≡ on_disk n p) (y : on ≡ true)
+    module _ (c' : List ℕ) (r' : Outcome (Unit {0})) (u : Extends n (on_page n d p) c c' r r') (h : k < most) (on : Bool) (o : on ≡ on_disk n p) (y : on ≡ true)
         (g : Bool) (s : g ≡ plain_names (entries_of n d p)) (z : g ≡ true) (l : Bool) (e : l ≡ last_page n d p) where
-      plain : sound_page n d p ≡ given tt
+      plain : sound_page n d p ≡ Ok tt
       unfolding sound_page
       plain = rw (← s, z) refl
 
@@ -418,7 +425,7 @@ module _ (n : ℕ) (d : List ℕ) (first : Place) (c₀ : List ℕ) where
       pub paging_last : l ≡ true → Aim c' r'
       unfolding next_page met_from on_page
       paging_last q =
-          let w : given (with_page n d i.met p) ≡ walk_held n d first =
+          let w : Ok (with_page n d i.met p) ≡ walk_held n d first =
           sym (rest_end (with_page n d) n (sound_page n d) (next_page n d) (35 * n + 1) k i.met p short (sym o ∙ y, plain) (rw (← e, q) refl)) ∙ i.is in
           let v : with_page n d i.met p ≡ met_from n d first = ap (λ (x : Outcome (Outcome (List Place))). x >>= λ o. o) w in
           subst (λ (x : Outcome (List Place)). Tallied n x c₀ c' r') v (u.steps i.met c₀ i.tallied)
@@ -440,29 +447,24 @@ module _ (n : ℕ) (d : List ℕ) (first : Place) (c₀ : List ℕ) where
 pub ruleset pagings = (paging_none, paging_long, paging_ring, paging_off, paging_bad, paging_last, paging_more, not-true, not-false, rules)
 
 -- ---- the disk
-module _ (n : ℕ) (d c₀ : List ℕ) (k : ℕ) (e : k ≡ number (readable n d)) where
-  pub all_refused : (k ≡ 0 → ⊥) → Tallied n (all_met n d) c₀ c₀ k
+module _ (n : ℕ) (d c₀ : List ℕ) where
+  pub all_refused : (r : Outcome (Unit {0})) (e : Refusal) → r ≡ Err e → Err e ≡ readable n d → Tallied n (all_met n d) c₀ c₀ r
   unfolding all_met
-  all_refused h = go (readable n d) e
-    where
-      go : (o : Outcome (Unit {0})) → k ≡ number o → Tallied n (o >> (met_from n d (first_page n d) >>= λ hs. given (vtoc ∷ hs))) c₀ c₀ k
-      go (refused r) q = tallied_refused n (refused r) r refl c₀ c₀ k q
-      go (given u) q = absurd (h q)
+  all_refused r e z h = tallied_refused n (all_met n d) e (rw (← h) refl) c₀ c₀ r z
 
-  pub all_walked : (c₁ : List ℕ) → Bumped n vtoc c₀ c₁ → (p : Place) (c : List ℕ) (r : ℕ) → Tallied n (met_from n d p) c₁ c r → p ≡ first_page n d → k ≡ 0
-      → Tallied n (all_met n d) c₀ c r
+  pub all_walked : (c₁ : List ℕ) → Bumped n vtoc c₀ c₁ → (p : Place) (c : List ℕ) (r : Outcome (Unit {0})) → Tallied n (met_from n d p) c₁ c r → p ≡ first_page n d
+      → Ok tt ≡ readable n d → Tallied n (all_met n d) c₀ c r
   unfolding all_met
   all_walked c₁ u p c r t f z =
-      let g = number_0 (readable n d) (sym e ∙ z) in
       let m : Outcome (List Place) = met_from n d (first_page n d) in
-      let v : all_met n d ≡ (m >>= λ hs. given (vtoc ∷ hs)) = ap (λ (w : Outcome (Unit {0})). w >> (m >>= λ hs. given (vtoc ∷ hs))) g.1 in
+      let v : all_met n d ≡ (m >>= λ hs. Ok (vtoc ∷ hs)) = ap (λ (w : Outcome (Unit {0})). w >> (m >>= λ hs. Ok (vtoc ∷ hs))) (sym z) in
       let t' : Tallied n m c₁ c r = subst (λ (x : Place). Tallied n (met_from n d x) c₁ c r) f t in
-      let a : Tallied n (m >>= λ hs. given (vtoc ∷ hs)) c₀ c r =
+      let a : Tallied n (m >>= λ hs. Ok (vtoc ∷ hs)) c₀ c r =
       record {
-        is = t'.is ∙ sym (number_then m (λ hs. vtoc ∷ hs));
+        is = t'.is ∙ sym (silent_map m (λ hs. vtoc ∷ hs));
         counts = λ all y.
-            let s = gives m (λ hs. given (vtoc ∷ hs)) all y in
-            let x : given (vtoc ∷ s.0) ≡ given all = s.2 in
+            let s = gives m (λ hs. Ok (vtoc ∷ hs)) all y in
+            let x : Ok (vtoc ∷ s.0) ≡ Ok all = s.2 in
             let q : vtoc ∷ s.0 ≡ all = cc in
             t'.counts s.0 s.1 ∙ ap (λ (w : List ℕ). bumps n w s.0) u.is ∙ sym (bumps_more n c₀ vtoc s.0) ∙ ap (bumps n c₀) q;
       } in

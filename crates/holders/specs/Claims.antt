@@ -3,16 +3,17 @@ use Rattle.std.specs.Prelude.{◌≡◌, true, false, not, ◌↔◌, List, map,
 use Rattle.lists.specs.Every.{Every}
 use Rattle.lists.specs.Fill.{Bytes}
 use Rattle.lists.specs.Select.{among, Apart, passing}
+use Rattle.std.specs.Prelude.{Ok, Err}
 use Rattle.outcome.specs.declared.Refusal.{Refusal}
-use Rattle.outcome.specs.Outcome.{refused, given}
 use Rattle.disk.specs.declared.Place.{Place}
 use Rattle.disk.specs.Disk.{per_of, place, number_of, place_of, sectors}
 use Rattle.disk.specs.Vtoc.{map_of, free_below}
 use Rattle.files.specs.Contents.{contents}
-use Rattle.holders.specs.Holders.{Holding, holding, holders, bit, free}
+use Rattle.holders.specs.declared.HolderCounts.{HolderCounts}
+use Rattle.holders.specs.Holders.{holding, holders, bit, free}
 
 -- of a disk of n sectors a track with the report h, its holders being hs
-pub record Reported (n : ℕ) (d : List ℕ) (h : Holding) (hs : List Place) : Type 0 where
+pub record Reported (n : ℕ) (d : List ℕ) (h : HolderCounts) (hs : List Place) : Type 0 where
   -- the three numbers add up to the disk's sectors
   pub adds : h.unheld + h.held_once + h.shared ≡ sectors n
   -- a sector is held by no one where no holder stands
@@ -25,9 +26,9 @@ pub record Reported (n : ℕ) (d : List ℕ) (h : Holding) (hs : List Place) : T
 -- Req 06, for a disk of n sectors a track
 pub record Holdings (n : ℕ) (d : List ℕ) : Type 0 where
   -- it is refused as the contents are
-  pub refuses : (r : Refusal) → (holding n d ≡ refused r) ↔ (contents n d ≡ refused r)
+  pub refuses : (r : Refusal) → (holding n d ≡ Err r) ↔ (contents n d ≡ Err r)
   -- else its numbers are those of its holders
-  pub reports : (h : Holding) → holding n d ≡ given h → (hs : List Place) × (holders n d ≡ given hs) × Reported n d h hs
+  pub reports : (h : HolderCounts) → holding n d ≡ Ok h → (hs : List Place) × (holders n d ≡ Ok hs) × Reported n d h hs
 
 -- the map that is meant here is that of 01 and Req 12
 pub record MapAgrees (d : List ℕ) : Type 0 where

@@ -1,10 +1,10 @@
 -- The holders of a disk's sectors: document 02, Req 06. A holder is the VTOC, a page, a list or a data pair, each place counted.
-use Rattle.std.specs.Prelude.{Bool, false, ◌&&◌, ℕ, ◌+◌, ◌-◌, ◌/◌, ◌%◌, ◌^◌, length, ltb, eqb}
+use Rattle.std.specs.Prelude.{Bool, ◌&&◌, ℕ, ◌+◌, ◌-◌, ◌/◌, ◌%◌, ◌^◌, length, ltb, eqb}
 use mathlib.Core.List.{List, ◌∷◌, ◌++◌, flat_map}
 use Rattle.lists.specs.Select.{all, filter, passing}
+use Rattle.std.specs.Prelude.{Ok}
 use Rattle.outcome.specs.declared.Refusal.TheVariants.{OffDisc}
-use Rattle.outcome.specs.Refusal.{code}
-use Rattle.outcome.specs.Outcome.{Outcome, refused, given, ◌>>=◌, ◌>>◌, require, each}
+use Rattle.outcome.specs.Outcome.{Outcome, ◌>>=◌, ◌>>◌, require, each}
 use Rattle.disk.specs.declared.Place.{Place}
 use Rattle.disk.specs.Disk.{on_disk, number_of, place_of, sectors}
 use Rattle.disk.specs.Vtoc.{vtoc, map_word}
@@ -20,7 +20,7 @@ module _ (n : ℕ) (d : List ℕ) where
 
   -- the sectors of the lists from p on, list by list: 5, 3, 4 at each link, then 3 for the pairs
   unfoldable pub sectors_from : Place → Outcome (List Place)
-  sectors_from p = list_walk n d p >>= λ ls. require (all (on_disk n) (flat_map (pairs_of n d) ls)) OffDisc >> given (flat_map with_pairs ls)
+  sectors_from p = list_walk n d p >>= λ ls. require (all (on_disk n) (flat_map (pairs_of n d) ls)) OffDisc >> Ok (flat_map with_pairs ls)
 
   -- those of an entry; its refusals are those of its file
   unfoldable pub sectors_of : Entry → Outcome (List Place)
@@ -28,7 +28,7 @@ module _ (n : ℕ) (d : List ℕ) where
 
   -- all holders: the VTOC, each page, and entry by entry its sectors; 1 to 6 as the contents have them
   unfoldable pub holders : Outcome (List Place)
-  holders = pages n d >>= λ ps. each sectors_of (flat_map (entries_of n d) ps) >>= λ ts. given (vtoc ∷ ps ++ flat_map (λ t. t) ts)
+  holders = pages n d >>= λ ps. each sectors_of (flat_map (entries_of n d) ps) >>= λ ts. Ok (vtoc ∷ ps ++ flat_map (λ t. t) ts)
 
 -- ---- how often a sector is held, hs being the holders
 module _ (n : ℕ) (hs : List Place) where
@@ -67,28 +67,10 @@ module _ (n : ℕ) (d : List ℕ) where
   clean hs = eqb (shared n hs) 0 && eqb (held_free hs) 0
 
 -- ---- the report
--- its numbers
-pub record Holding : Type 0 where
-  pub unheld : ℕ
-  pub held_once : ℕ
-  pub shared : ℕ
-  pub held_free : ℕ
-  pub clean : Bool
-
--- those of the holders hs
-abbrev pub numbers_of : (n : ℕ) (d : List ℕ) → List Place → Holding
+-- the numbers of the holders hs
+abbrev pub numbers_of : (n : ℕ) (d : List ℕ) → List Place → HolderCounts
 numbers_of n d hs = record { unheld = unheld n hs; held_once = held_once n hs; shared = shared n hs; held_free = held_free n d hs; clean = clean n d hs }
 
 -- those of a disk: 1 to 6
-unfoldable pub holding : ℕ → List ℕ → Outcome Holding
-holding n d = holders n d >>= λ hs. given (numbers_of n d hs)
-
--- a refusal: zeros
-abbrev pub no_holders : ℕ → HolderCounts
-no_holders r = record { refusal = r; unheld = 0; held_once = 0; shared = 0; held_free = 0; clean = false }
-
--- what the call answers: the numbers, or a refusal
-abbrev pub reported : Outcome Holding → HolderCounts
-reported (refused r) = no_holders (code r)
-reported (given h) =
-    record { refusal = 0; unheld = h.unheld; held_once = h.held_once; shared = h.shared; held_free = h.held_free; clean = h.clean }
+unfoldable pub holding : ℕ → List ℕ → Outcome HolderCounts
+holding n d = holders n d >>= λ hs. Ok (numbers_of n d hs)

@@ -2,7 +2,8 @@
 use Rattle.std.specs.Prelude.{◌≡◌, Bool, true, cond, ◌&&◌, ℕ, zero, suc, ◌+◌, ◌*◌, ◌<◌, get_or, set, ltb, eqb}
 use mathlib.Core.List.{List, [], ◌∷◌, ◌++◌, foldl}
 use Rattle.lists.specs.Select.{all}
-use Rattle.outcome.specs.Outcome.{Outcome, given, ◌>>=◌, ◌>>◌, number}
+use Rattle.std.specs.Prelude.{Ok}
+use Rattle.outcome.specs.Outcome.{Outcome, ◌>>=◌, ◌>>◌}
 use Rattle.disk.specs.declared.Place.{Place}
 use Rattle.disk.specs.Disk.{place, start, on_disk, number_of, place_of, sectors}
 use Rattle.disk.specs.Vtoc.{vtoc, readable}
@@ -39,13 +40,13 @@ module _ (n : ℕ) where
     pub good : r ≡ all (on_disk n) ps
     pub is : after ≡ bumps before ps
 
-  -- A step counts the places of o, and answers r: the refusal of o, or 0; under a refusal the counts are not looked at.
-  pub record Tallied (o : Outcome (List Place)) (before after : List ℕ) (r : ℕ) : Type 0 where
-    pub is : r ≡ number o
-    pub counts : (hs : List Place) → o ≡ given hs → after ≡ bumps before hs
+  -- A step counts the places of o, and answers r: the refusal of o, or that there is none; under a refusal the counts are not looked at.
+  pub record Tallied (o : Outcome (List Place)) (before after : List ℕ) (r : Outcome (Unit {0})) : Type 0 where
+    pub is : r ≡ o >> Ok tt
+    pub counts : (hs : List Place) → o ≡ Ok hs → after ≡ bumps before hs
 
   -- A step goes on from what was met so far, o, to f o.
-  pub record Extends (f : Outcome (List Place) → Outcome (List Place)) (before after : List ℕ) (q r : ℕ) : Type 0 where
+  pub record Extends (f : Outcome (List Place) → Outcome (List Place)) (before after : List ℕ) (q r : Outcome (Unit {0})) : Type 0 where
     pub steps : (o : Outcome (List Place)) (first : List ℕ) → Tallied o first before q → Tallied (f o) first after r
 
 -- a list was counted, and its pairs; r says whether all of these are on the disk
@@ -57,11 +58,11 @@ pub record ListHeld (n : ℕ) (d : List ℕ) (p : Place) (before after : List �
 module _ (n : ℕ) (d : List ℕ) where
   -- the sectors of the line that starts at x; none where it is not in use
   unfoldable pub line_sectors : ℕ → Outcome (List Place)
-  line_sectors x = cond (live (entry_from d x)) (sectors_from n d (entry_from d x).list) (given [])
+  line_sectors x = cond (live (entry_from d x)) (sectors_from n d (entry_from d x).list) (Ok [])
 
   -- with those of a line more
   unfoldable pub with_line : ℕ → Outcome (List Place) → Outcome (List Place)
-  with_line x o = o >>= λ hs. line_sectors x >>= λ t. given (hs ++ t)
+  with_line x o = o >>= λ hs. line_sectors x >>= λ t. Ok (hs ++ t)
 
   -- with the first i lines of a page
   unfoldable pub with_lines : Place → (i : ℕ) → Outcome (List Place) → Outcome (List Place)
@@ -70,21 +71,21 @@ module _ (n : ℕ) (d : List ℕ) where
 
   -- with a page more, and its seven lines
   unfoldable pub with_page : Outcome (List Place) → Place → Outcome (List Place)
-  with_page o p = with_lines p 7 (o >>= λ hs. given (hs ++ p ∷ []))
+  with_page o p = with_lines p 7 (o >>= λ hs. Ok (hs ++ p ∷ []))
 
   unfoldable pub on_page : Place → Outcome (List Place) → Outcome (List Place)
   on_page p o = with_page o p
 
   -- the pages from p on
   unfoldable pub walk_held : Place → Outcome (Outcome (List Place))
-  walk_held p = walk n (sound_page n d) (next_page n d) (sectors n + 1) [] p >>= λ ps. given (foldl with_page (given []) ps)
+  walk_held p = walk n (sound_page n d) (next_page n d) (sectors n + 1) [] p >>= λ ps. Ok (foldl with_page (Ok []) ps)
 
   -- all that is met: 1, 2, then the pages' refusals, then the entries'
   unfoldable pub met_from : Place → Outcome (List Place)
   met_from p = walk_held p >>= λ o. o
 
   unfoldable pub all_met : Outcome (List Place)
-  all_met = readable n d >> (met_from (first_page n d) >>= λ hs. given (vtoc ∷ hs))
+  all_met = readable n d >> (met_from (first_page n d) >>= λ hs. Ok (vtoc ∷ hs))
 
 -- ---- the tests of a count
 -- sector k has the count v

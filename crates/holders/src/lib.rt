@@ -3,24 +3,25 @@
 
 ghost use Rattle.std.specs.Prelude.{◌≡◌, cond, ◌&&◌, ◌*◌, ◌-◌, ◌<◌, ◌≤◌, length, eqb, ltb};
 ghost use Rattle.lists.specs.Select.{passing};
+ghost use Rattle.outcome.specs.Outcome.{require};
+ghost use Rattle.outcome.specs.declared.Refusal.TheVariants.{OffDisc};
 ghost use Rattle.disk.specs.Disk.{per_of};
 ghost use Rattle.files.specs.Contents.{pairs_of};
-ghost use Rattle.holders.specs.Holders.{sectors_from, bit, free, holding, no_holders, reported};
+ghost use Rattle.holders.specs.Holders.{sectors_from, bit, free, holding};
 ghost use Rattle.holders.specs.Tally.{is_held, is_free, is_free_in, Bumped, PairHeld, Paired, ListHeld, Tallied, Extends, with_line, on_page, met_from, all_met, Idle};
 
 use catalog::{entry_list, entry_start, first_page, last_page, plain_page, valid_file};
 use disk::{
-    Place, Sector, Track, chain_budget, link_of, map_word, on_disk, sector_start, sectors_of,
-    table_refusal,
+    Place, Sector, Track, chain_budget, link_of, map_word, on_disk, readable, sector_start,
+    sectors_of,
 };
 use files::{MAX_PAIRS, last_list, parse_track_sector_pair, whole_link};
 use lists::{byte_at, part};
-use outcome::{BAD_LETTER, CUT_LINK, OFF_DISC, RING};
+use outcome::Refusal;
 
-// The report: sectors held by no one, by exactly one holder, by more than one; held sectors that the map calls free; whether the disk is clean. Or a refusal.
-#[derive(Clone, Copy)]
+// The report: sectors held by no one, by exactly one holder, by more than one; held sectors that the map calls free; whether the disk is clean.
+#[derive(Clone, Copy, Debug, PartialEq, Eq)]
 pub struct HolderCounts {
-    pub refusal: u8,
     pub unheld: u16,
     pub held_once: u16,
     pub shared: u16,
@@ -54,15 +55,13 @@ fn hold_pair(per: u8, q: Place, counts: &mut [u8]) -> bool
 fn hold_pairs(disk: &[u8], per: u8, p: Place, counts: &mut [u8]) -> bool
     ensures { Paired per (pairs_of per disk.now p) counts.old counts.new result }
 {
-    let mut i: u8 = 0;
     let mut good = true;
-    while i < MAX_PAIRS {
+    for i in 0..MAX_PAIRS {
         let q = parse_track_sector_pair(disk, per, p, i);
         if q.track.0 == 0 {
             return good;
         }
         good = good & hold_pair(per, q, counts);
-        i += 1;
     }
     good
 }
@@ -76,61 +75,64 @@ fn hold_list(disk: &[u8], per: u8, p: Place, counts: &mut [u8]) -> bool
 }
 
 // The end of a chain of lists: 3 where a pair is not on the disk.
-fn end_of(good: bool) -> u8
-    ensures { result ≡ cond good 0 3 }
+fn end_of(good: bool) -> Result<(), Refusal>
+    ensures { result ≡ require good OffDisc }
 {
-    if good {
-        return 0;
-    }
-    OFF_DISC
+    if good { Ok(()) } else { Err(Refusal::OffDisc) }
 }
 
 // Counts the lists from `first` on, each with its pairs: at each link 5, 3, 4, and then 3 for the pairs.
-fn hold_file(disk: &[u8], per: u8, first: Place, counts: &mut [u8]) -> u8
+fn hold_file(disk: &[u8], per: u8, first: Place, counts: &mut [u8]) -> Result<(), Refusal>
     ensures { Tallied per (sectors_from per disk.now first) counts.old counts.new result }
 {
     let most = chain_budget(per);
     let mut p = first;
-    let mut k: u16 = 0;
     let mut good = true;
-    loop {
-        if most <= k {
-            return RING;
-        }
+    for _turn in 0..most {
         if !on_disk(per, p) {
-            return OFF_DISC;
+            return Err(Refusal::OffDisc);
         }
         if !whole_link(disk, per, p) {
-            return CUT_LINK;
+            return Err(Refusal::CutLink);
         }
         good = good & hold_list(disk, per, p, counts);
-        k += 1;
         if last_list(disk, per, p) {
             return end_of(good);
         }
         p = link_of(disk, per, p);
     }
+    Err(Refusal::Ring)
 }
 
 // Counts the sectors of the entry from x on where it is in use; the first refusal stands.
-fn hold_entry(disk: &[u8], per: u8, refusal: u8, x: usize, counts: &mut [u8]) -> u8
-    ensures { Extends per (with_line per disk.now x) counts.old counts.new refusal result }
+fn hold_entry(
+    disk: &[u8],
+    per: u8,
+    before: Result<(), Refusal>,
+    x: usize,
+    counts: &mut [u8],
+) -> Result<(), Refusal>
+    ensures { Extends per (with_line per disk.now x) counts.old counts.new before result }
 {
-    if refusal != 0 {
-        return refusal;
-    }
+    before?;
     if valid_file(byte_at(disk, x)) {
         return hold_file(disk, per, entry_list(disk, x), counts);
     }
-    0
+    Ok(())
 }
 
 // Counts a page and the sectors of its entries.
-fn hold_page(disk: &[u8], per: u8, refusal: u8, page: Place, counts: &mut [u8]) -> u8
-    ensures { Extends per (on_page per disk.now page) counts.old counts.new refusal result }
+fn hold_page(
+    disk: &[u8],
+    per: u8,
+    before: Result<(), Refusal>,
+    page: Place,
+    counts: &mut [u8],
+) -> Result<(), Refusal>
+    ensures { Extends per (on_page per disk.now page) counts.old counts.new before result }
 {
     hold(counts, per, page);
-    let mut r = refusal;
+    let mut r = before;
     for i in 0..7u8 {
         r = hold_entry(disk, per, r, entry_start(per, page, i), counts);
     }
@@ -138,40 +140,33 @@ fn hold_page(disk: &[u8], per: u8, refusal: u8, page: Place, counts: &mut [u8]) 
 }
 
 // Counts the pages from `first` on and what their entries hold. A page's refusal stands before any entry's, so all pages are read also after an entry refused.
-fn hold_pages(disk: &[u8], per: u8, first: Place, counts: &mut [u8]) -> u8
+fn hold_pages(disk: &[u8], per: u8, first: Place, counts: &mut [u8]) -> Result<(), Refusal>
     ensures { Tallied per (met_from per disk.now first) counts.old counts.new result }
 {
     let most = chain_budget(per);
     let mut p = first;
-    let mut k: u16 = 0;
-    let mut r: u8 = 0;
-    loop {
-        if most <= k {
-            return RING;
-        }
+    let mut r: Result<(), Refusal> = Ok(());
+    for _turn in 0..most {
         if !on_disk(per, p) {
-            return OFF_DISC;
+            return Err(Refusal::OffDisc);
         }
         if !plain_page(disk, per, p) {
-            return BAD_LETTER;
+            return Err(Refusal::BadLetter);
         }
         r = hold_page(disk, per, r, p, counts);
-        k += 1;
         if last_page(disk, per, p) {
             return r;
         }
         p = link_of(disk, per, p);
     }
+    Err(Refusal::Ring)
 }
 
 // Counts all holders of a disk of `per` sectors a track; refusals 1 to 6 in the flat order.
-fn hold_all(disk: &[u8], per: u8, counts: &mut [u8]) -> u8
+fn hold_all(disk: &[u8], per: u8, counts: &mut [u8]) -> Result<(), Refusal>
     ensures { Tallied per (all_met per disk.now) counts.old counts.new result }
 {
-    let number = table_refusal(disk, per);
-    if number != 0 {
-        return number;
-    }
+    readable(disk, per)?;
     let vtoc = Place {
         track: Track(17),
         sector: Sector(0),
@@ -185,10 +180,7 @@ fn one(b: bool) -> u16
     ensures is { result ≡ cond b 1 0 }
     ensures small { result ≤ 1 }
 {
-    if b {
-        return 1;
-    }
-    0
+    if b { 1 } else { 0 }
 }
 
 // How many of the first `total` counts are v.
@@ -207,10 +199,7 @@ fn count_held(counts: &[u8], total: usize, v: u8) -> u16
 fn has_bit(w: u16, k: u16) -> bool
     ensures { result ≡ eqb (bit k w) 1 }
 {
-    if 16 <= k {
-        return false;
-    }
-    (w >> k) % 2 == 1
+    k < 16 && (w >> k) % 2 == 1
 }
 
 // The map bits below sector 0's.
@@ -218,10 +207,7 @@ fn low_bits(per: u8) -> u16
     ensures is { result ≡ 16 - per }
     ensures small { result ≤ 16 }
 {
-    if 16 < per {
-        return 0;
-    }
-    16 - per as u16
+    16u16.saturating_sub(per as u16)
 }
 
 // The map calls a sector free.
@@ -285,48 +271,30 @@ fn count_free(disk: &[u8], per: u8, counts: &[u8]) -> u16
     n
 }
 
-// A refusal: zeros.
-fn no_holders(number: u8) -> HolderCounts
-    ensures { result ≡ no_holders number }
-{
-    HolderCounts {
-        refusal: number,
-        unheld: 0,
-        held_once: 0,
-        shared: 0,
-        held_free: 0,
-        clean: false,
-    }
-}
-
 // The report on a disk of `per` sectors a track; refusals 1 to 6.
-fn holders_of(disk: &[u8], per: u8) -> HolderCounts
+fn holders_of(disk: &[u8], per: u8) -> Result<HolderCounts, Refusal>
     requires { (0 < per) × (per ≤ 16) }
-    ensures { result ≡ reported (holding per disk.now) }
+    ensures { result ≡ holding per disk.now }
 {
     let mut counts = [0u8; 560];
-    let number = hold_all(disk, per, &mut counts);
-    if number != 0 {
-        return no_holders(number);
-    }
+    hold_all(disk, per, &mut counts)?;
     let total = 35 * (per as usize);
-    let once = count_held(&counts, total, 1);
+    let held_once = count_held(&counts, total, 1);
     let shared = count_held(&counts, total, 2);
     let unheld = count_held(&counts, total, 0);
-    let free = count_free(disk, per, &counts);
-    HolderCounts {
-        refusal: 0,
-        unheld: unheld,
-        held_once: once,
-        shared: shared,
-        held_free: free,
-        clean: (shared == 0) & (free == 0),
-    }
+    let held_free = count_free(disk, per, &counts);
+    Ok(HolderCounts {
+        unheld,
+        held_once,
+        shared,
+        held_free,
+        clean: (shared == 0) & (held_free == 0),
+    })
 }
 
 // The report on a flat disk; refusals 1 to 6.
-pub fn holders(disk: &[u8]) -> HolderCounts
-    ensures { result ≡ reported (holding (per_of disk.now) disk.now) }
+pub fn holders(disk: &[u8]) -> Result<HolderCounts, Refusal>
+    ensures { result ≡ holding (per_of disk.now) disk.now }
 {
     holders_of(disk, sectors_of(disk))
 }

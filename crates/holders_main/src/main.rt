@@ -6,11 +6,20 @@
 #![tactic(auto)]
 
 use disk::{Place, Sector, Track};
-use trial::{number, print, print_line, print_number, refusal_line};
+use holders::HolderCounts;
+use trial::{number, print, print_line, print_number, shown};
+
+// What is shown under a refusal.
+const NO_COUNTS: HolderCounts = HolderCounts {
+    unheld: 0,
+    held_once: 0,
+    shared: 0,
+    held_free: 0,
+    clean: false,
+};
 
 fn show_holders(disk: &[u8]) {
-    let h = holders::holders(disk);
-    refusal_line(b"holders: refusal", h.refusal);
+    let h = shown(b"holders: refusal", holders::holders(disk), NO_COUNTS);
     print_number(b"  unheld", h.unheld as u64);
     print_number(b", once", h.held_once as u64);
     print_number(b", shared", h.shared as u64);
@@ -45,20 +54,7 @@ fn act(disks: &mut [u8], step: [u8; 6]) {
     }
 }
 
-fn run(disks: &mut [u8]) {
-    let mut left: u32 = 100000;
-    while left > 0 {
-        let s = trial::next_step();
-        if !s.more {
-            return;
-        }
-        let step = s.bytes;
-        act(disks, step);
-        left -= 1;
-    }
-}
-
 fn main() {
     let mut disks = laying::disks();
-    run(&mut disks);
+    trial::run_script(|step| act(&mut disks, step));
 }

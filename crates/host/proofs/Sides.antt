@@ -7,7 +7,7 @@ use borrow.Author.Rules.{rules}
 use Rattle.sides.specs.declared.Side.{Side}
 use Rattle.sides.specs.declared.Side.TheVariants.{Survey, Ours}
 use Rattle.sides.specs.Sides.{saved_for, deleted_for}
-use Rattle.saving.specs.Saving.{Amended}
+use Rattle.host.specs.Exports.{Amends}
 use Rattle.host.specs.Sides.{side_of}
 
 pub side_ours : (b : ℕ) → b ≡ 0 → Ours ≡ side_of b
@@ -20,11 +20,11 @@ pub ruleset naming = (side_ours, side_survey, rules)
 
 -- what is promised for the side is promised for the byte
 module _ (d e : List ℕ) (s : Side) (b : ℕ) (h : s ≡ side_of b) (limit : ℕ) (name : List ℕ) (r : ℕ) where
-  pub save_asked : (address : ℕ) (bytes : List ℕ) → Amended (saved_for 16 d s limit name address bytes) d e r
-      → Amended (saved_for 16 d (side_of b) limit name address bytes) d e r
-  save_asked address bytes u = subst (λ (x : Side). Amended (saved_for 16 d x limit name address bytes) d e r) h u
+  pub save_asked : (address : ℕ) (bytes : List ℕ) → Amends (saved_for 16 d s limit name address bytes) d e r
+      → Amends (saved_for 16 d (side_of b) limit name address bytes) d e r
+  save_asked address bytes u = subst (λ (x : Side). Amends (saved_for 16 d x limit name address bytes) d e r) h u
 
-  pub delete_asked : Amended (deleted_for 16 d s limit name) d e r → Amended (deleted_for 16 d (side_of b) limit name) d e r
-  delete_asked u = subst (λ (x : Side). Amended (deleted_for 16 d x limit name) d e r) h u
+  pub delete_asked : Amends (deleted_for 16 d s limit name) d e r → Amends (deleted_for 16 d (side_of b) limit name) d e r
+  delete_asked u = subst (λ (x : Side). Amends (deleted_for 16 d x limit name) d e r) h u
 
 pub ruleset asking = (save_asked, delete_asked, rules)

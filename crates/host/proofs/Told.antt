@@ -4,46 +4,48 @@ use mathlib.Core.Bool.{true}
 use mathlib.Core.List.{List}
 use Prim.Native.Nat.{ℕ}
 use native.Mathlib.Omega.{arith}
-use borrow.Author.Tests.{eq-eqb, ne_eqb}
-use borrow.Author.Rules.{rules}
-use Rattle.outcome.specs.declared.Handed.{Handed}
-use Rattle.outcome.specs.Refusal.{code}
-use Rattle.outcome.specs.Outcome.{Outcome, refused, given, number, handed, answer_of, Hands}
+use borrow.Author.Tests.{ne_eqb}
+use Rattle.std.specs.Prelude.{Ok, Err}
+use Rattle.std.specs.Result.{result_unwrap_or}
+use Rattle.outcome.specs.Outcome.{Outcome, ◌>>◌, number, handed, answer_of, Hands}
 use Rattle.outcome.proofs.Outcome.{code_pos}
-use Rattle.host.specs.Exports.{length_by, Exports, Fields, Told, yes}
-
--- the length is told where there is no refusal
-pub told_given : (h : Handed) (n : ℕ) → h.refusal ≡ 0 → Told h n h.length h.refusal
-told_given h n e = record { result = refl; length = sym (rw (eq-eqb _ _ e) refl) }
-
-pub told_refused : (h : Handed) (n : ℕ) → (h.refusal ≡ 0 → ⊥) → Told h n n h.refusal
-told_refused h n e = record { result = refl; length = sym (rw (ne_eqb _ _ e) refl) }
-
-pub ruleset tellings = (told_given, told_refused, rules)
+use Rattle.amend.specs.Amending.{bare}
+use Rattle.saving.specs.Saving.{Amended}
+use Rattle.host.specs.Exports.{length_by, Exports, Fields, Puts, Amends, Told, yes}
 
 -- what is handed over is exported so
-answered : {A : Type 0} (p : Outcome (List A)) (h : Handed) (n m r : ℕ) → h ≡ answer_of p → Told h n m r → (r ≡ number p) × (m ≡ length_by p n)
-answered (refused q) h n m r e t =
-    let z : h.refusal ≡ code q = ap (λ (y : Handed). y.refusal) e in
-    (t.result ∙ z, t.length ∙ rw (ne_eqb h.refusal 0 (λ i. omega (arith, code_pos q))) refl)
-answered (given w) h n m r e t =
-    let z : h.refusal ≡ 0 = ap (λ (y : Handed). y.refusal) e in
-    (t.result ∙ z, t.length ∙ rw (eq-eqb h.refusal 0 z) (ap (λ (y : Handed). y.length) e))
+answered : {A : Type 0} (p : Outcome (List A)) (h : Outcome ℕ) (n m r : ℕ) → h ≡ answer_of p → Told h n m r → (r ≡ number p) × (m ≡ length_by p n)
+answered (Err q) h n m r e t = (t.result ∙ ap number e, t.length ∙ ap (λ (y : Outcome ℕ). result_unwrap_or y n) e)
+answered (Ok w) h n m r e t = (t.result ∙ ap number e, t.length ∙ ap (λ (y : Outcome ℕ). result_unwrap_or y n) e)
 
-pub exports : {A : Type 0} (o : Outcome (List A)) (b a : List A) (h : Handed) (n m r : ℕ) → Hands o b a h → Told h n m r → Exports o b a n m r
+pub exports : {A : Type 0} (o : Outcome (List A)) (b a : List A) (h : Outcome ℕ) (n m r : ℕ) → Hands o b a h → Told h n m r → Exports o b a n m r
 exports o b a h n m r u t =
     let g = answered (handed o b) h n m r u.answer t in
     record { result = g.0; left = u.left; length = g.1 }
 
--- .. and so are numbers
-number_told : {A : Type 0} (p : Outcome (List A)) (h : Handed) → h ≡ answer_of p → h.refusal ≡ number p
-number_told (refused q) h e = ap (λ (y : Handed). y.refusal) e
-number_told (given w) h e = ap (λ (y : Handed). y.refusal) e
+number_then : {A : Type 0} (p : Outcome A) → number (◌>>◌ {B = Unit {0}} p (Ok tt)) ≡ number p
+number_then (Err q) = refl
+number_then (Ok w) = refl
 
-pub fields_told : (o : Outcome (List ℕ)) (b a : List ℕ) (h : Handed) → Hands o b a h → Fields o b a h.refusal
-fields_told o b a h u = record { result = number_told (handed o b) h u.answer; left = u.left }
+pub puts_told : (o : Outcome (List ℕ)) (b a : List ℕ) (h : Outcome (Unit {0})) (r : ℕ) → Puts o b a h → r ≡ number h → Fields o b a r
+puts_told o b a h r u e = record { result = e ∙ ap number u.answer ∙ number_then (handed o b); left = u.left }
 
-pub ruleset exporting = (exports, fields_told, rules)
+-- .. and a disk that was changed
+pub amends_told : (o : Outcome (List ℕ)) (b a : List ℕ) (h : Outcome (Unit {0})) (r : ℕ) → Amended o b a h → r ≡ number h → Amends o b a r
+amends_told o b a h r u e = record { result = e ∙ ap number u.is ∙ number_then o; disk = u.disk }
+
+-- what an exported call promises of a disk says what the library's call promises: so the claims of calls in a row are of exported calls too
+pub amends_says : (o : Outcome (List ℕ)) (b a : List ℕ) (r : ℕ) → Amends o b a r → (h : Outcome (Unit {0})) × Amended o b a h × (r ≡ number h)
+amends_says o b a r u = (bare o, record { is = refl; disk = u.disk }, u.result ∙ sym (number_bare o))
+  where
+    number_bare : {A : Type 0} (p : Outcome A) → number (bare p) ≡ number p
+    number_bare (Err q) = refl
+    number_bare (Ok w) = refl
+
+-- .. and the number 0 says that it was not refused
+pub number_zero : (h : Outcome (Unit {0})) → number h ≡ 0 → h ≡ Ok tt
+number_zero (Err q) e = absurd (omega (arith, code_pos q))
+number_zero (Ok tt) e = refl
 
 pub yes_is : (b : ℕ) → (b ≡ 0 → ⊥) → yes b ≡ true
 yes_is b h = rw (ne_eqb _ _ h) refl

@@ -1,8 +1,8 @@
 // The functions exported to a host: docs/HOST-API.md. Each calls the library function of the same job, and tells its answer.
 #![tactic(auto)]
 
-ghost use Rattle.std.specs.Prelude.{◌≡◌, cond, ◌≤◌, length, drop, ltb, ◌++◌, ◌∷◌, []};
-ghost use Rattle.outcome.specs.Outcome.{number};
+ghost use Rattle.std.specs.Prelude.{◌≡◌, cond, ltb, Ok};
+ghost use Rattle.outcome.specs.Outcome.{number, Hands};
 ghost use Rattle.disk.specs.Disk.{per_of, place, byte_of};
 ghost use Rattle.disk.specs.Vtoc.{vtoc};
 ghost use Rattle.disk.specs.Window.{windowed};
@@ -13,35 +13,46 @@ ghost use Rattle.pairs.specs.Run.{pair_run};
 ghost use Rattle.files.specs.Chosen.{file_of_number, lists_of_number};
 ghost use Rattle.amend.specs.Save.{saved, deleted};
 ghost use Rattle.sides.specs.Sides.{saved_for, deleted_for};
-ghost use Rattle.saving.specs.Saving.{Amended};
 ghost use Rattle.forecast.specs.Forecast.{forecast_numbers};
 ghost use Rattle.nibble.specs.Nibble.{encoded};
 ghost use Rattle.fields.specs.declared.Edition.TheVariants.{Sixteen, Thirteen};
 ghost use Rattle.stream.specs.Stream.{image, sector_of};
 ghost use Rattle.nibblize.specs.Nibblize.{nibblized};
 ghost use Rattle.archive.specs.Archive.{archive_of, check};
-ghost use Rattle.outcome.specs.Outcome.{given};
 ghost use Rattle.records.specs.Records.{entry_written, page_written, file_written};
 ghost use Rattle.fields.specs.Search.{recognized};
 ghost use Rattle.reader.specs.Steps.{entry_step};
-ghost use Rattle.host.specs.Exports.{Exports, Fields, Told, yes, letters_of, vtoc_numbers, survey_numbers, holder_numbers, open_numbers, entry_fields, entry_numbers, format_numbers};
+ghost use Rattle.host.specs.Exports.{Exports, Fields, Puts, Amends, Told, yes, letters_of, vtoc_values, vtoc_numbers, survey_numbers, holder_numbers, open_numbers, entry_fields, entry_numbers, format_numbers};
 ghost use Rattle.host.specs.Sides.{side_of};
 
-use disk::{Place, Sector, Track};
-use lists::{copy_at, part};
-use outcome::{Handed, TRAY_SHORT};
+use disk::{Place, Sector, Track, VolumeTableOfContents};
+use lists::copy_at;
+use outcome::Refusal;
 use pairs::TrackSectorPair;
 use reader::Entry;
 use sides::Side;
 
-// Tells an answer: its number is the result, its length goes behind `length`.
-fn tell(h: Handed, length: &mut u64) -> u8
-    ensures { Told h length.old length.new result }
+// Tells an answer: the refusal's number, or 0 and how many were written behind `length`.
+fn tell(answer: Result<usize, Refusal>, length: &mut u64) -> u8
+    ensures { Told answer length.old length.new result }
 {
-    if h.refusal == 0 {
-        *length = h.length as u64;
+    match answer {
+        Ok(written) => {
+            *length = written as u64;
+            0
+        },
+        Err(why) => u8::from(why),
     }
-    h.refusal
+}
+
+// The number of an answer: 0 where nothing was refused.
+fn number_of<T: Drop>(answer: Result<T, Refusal>) -> u8
+    ensures { result ≡ number answer }
+{
+    match answer {
+        Ok(_) => 0,
+        Err(refusal) => u8::from(refusal),
+    }
 }
 
 // The catalog, 37 bytes an entry. 1, 2, pages, 12.
@@ -49,8 +60,8 @@ fn tell(h: Handed, length: &mut u64) -> u8
 pub extern "C" fn dos33_catalog(disk: &[u8], out: &mut [u8], length: &mut u64) -> u8
     ensures { Exports (listed (per_of disk.now) disk.now) out.old out.new length.old length.new result }
 {
-    let answer = catalog::parse_catalogs(disk, out);
-    tell(answer.handed, length)
+    let answer = catalog::parse_catalogs(disk, out).map(|listing| listing.length);
+    tell(answer, length)
 }
 
 // The track/sector lists of an entry, two bytes each. 1 to 6, 12.
@@ -124,33 +135,30 @@ pub extern "C" fn dos33_archive_write(disk: &[u8], out: &mut [u8], length: &mut 
 pub extern "C" fn dos33_archive_check(disk: &[u8], archive: &[u8]) -> u8
     ensures { result ≡ number (check (per_of disk.now) disk.now archive.now) }
 {
-    writer::check_archive(disk, archive)
+    number_of(writer::check_archive(disk, archive))
 }
 
 // Saves a Binary file, not locked: the disk is changed in place. 1 to 6, 20, 14, 22, 21.
 #[unsafe(no_mangle)]
 pub extern "C" fn dos33_save(disk: &mut [u8], name: &[u8], address: u16, data: &[u8]) -> u8
-    ensures { Amended (saved 16 disk.old name.now address «data».now) disk.old disk.new result }
+    ensures { Amends (saved 16 disk.old name.now address «data».now) disk.old disk.new result }
 {
-    saving::save(disk, name, address, data)
+    number_of(saving::save(disk, name, address, data))
 }
 
 // Deletes the last entry of the name, locked or not: the disk is changed in place. 1 to 6, 20, 14, 18.
 #[unsafe(no_mangle)]
 pub extern "C" fn dos33_delete(disk: &mut [u8], name: &[u8]) -> u8
-    ensures { Amended (deleted 16 disk.old name.now) disk.old disk.new result }
+    ensures { Amends (deleted 16 disk.old name.now) disk.old disk.new result }
 {
-    saving::delete(disk, name)
+    number_of(saving::delete(disk, name))
 }
 
 // The side that a host names by a byte: 0 is ours, anything else the survey office.
 fn side_of(side: u8) -> Side
     ensures { result ≡ side_of side }
 {
-    if side == 0 {
-        return Side::Ours;
-    }
-    Side::Survey
+    if side == 0 { Side::Ours } else { Side::Survey }
 }
 
 // A save by a side, within its limit of sectors. 1 to 6, 20, 14, 23, 22, 24, 21.
@@ -163,19 +171,19 @@ pub extern "C" fn dos33_save_for(
     address: u16,
     data: &[u8],
 ) -> u8
-    ensures { Amended (saved_for 16 disk.old (side_of side) limit name.now address «data».now) disk.old disk.new result }
+    ensures { Amends (saved_for 16 disk.old (side_of side) limit name.now address «data».now) disk.old disk.new result }
 {
     let asker = side_of(side);
-    saving::save_for(disk, asker, limit, name, address, data)
+    number_of(saving::save_for(disk, asker, limit, name, address, data))
 }
 
 // A delete by a side; its limit is not looked at. 1 to 6, 20, 14, 23, 18.
 #[unsafe(no_mangle)]
 pub extern "C" fn dos33_delete_for(disk: &mut [u8], side: u8, limit: u64, name: &[u8]) -> u8
-    ensures { Amended (deleted_for 16 disk.old (side_of side) limit name.now) disk.old disk.new result }
+    ensures { Amends (deleted_for 16 disk.old (side_of side) limit name.now) disk.old disk.new result }
 {
     let asker = side_of(side);
-    saving::delete_for(disk, asker, limit, name)
+    number_of(saving::delete_for(disk, asker, limit, name))
 }
 
 // The 342 nibbles of a sector and their sum. 1, 12.
@@ -307,15 +315,28 @@ pub extern "C" fn dos33_recognize_prologue(stream: &[u8]) -> u8
 }
 
 // Hands the bytes over; 12 where there is too little space.
-fn put_bytes(bytes: &[u8], out: &mut [u8], length: &mut u64) -> u8
-    ensures { Exports (given bytes.now) out.old out.new length.old length.new result }
+fn put_bytes(bytes: &[u8], out: &mut [u8]) -> Result<usize, Refusal>
+    ensures { Hands (Ok bytes.now) out.old out.new result }
 {
     if out.len() < bytes.len() {
-        return TRAY_SHORT;
+        return Err(Refusal::TrayShort);
     }
     copy_at(bytes, out, 0);
-    *length = bytes.len() as u64;
-    0
+    Ok(bytes.len())
+}
+
+// The bytes of a sector of the disk if flat, else of the image.
+fn put_window<'a>(
+    disk: &'a [u8],
+    image: &'a [u8],
+    flat: bool,
+    place: Place,
+    out: &mut [u8],
+) -> Result<usize, Refusal>
+    ensures { Hands (windowed disk.now image.now flat place) out.old out.new result }
+{
+    let bytes = disk::window(disk, image, flat, place.track, place.sector)?;
+    put_bytes(bytes, out)
 }
 
 // A sector of the disk if flat, else of the image. 1, 3, 12.
@@ -331,45 +352,42 @@ pub extern "C" fn dos33_window<'a>(
 ) -> u8
     ensures { Exports (windowed disk.now image.now (yes flat) (place track sector)) out.old out.new length.old length.new result }
 {
-    let number = disk::window_refusal(disk, image, flat != 0, Track(track), Sector(sector));
-    if number != 0 {
-        return number;
+    let place = Place {
+        track: Track(track),
+        sector: Sector(sector),
+    };
+    tell(put_window(disk, image, flat != 0, place, out), length)
+}
+
+// The letters of the word for a number: none where no refusal has it.
+#[tactic(auto, unfolding(crate::specs::Exports::letters_of))]
+fn letters_of(number: u8) -> &'static str
+    ensures { result.now ≡ letters_of number }
+{
+    match Refusal::try_from(number) {
+        Ok(refusal) => refusal.word(),
+        Err(_) => "",
     }
-    let bytes = disk::window(disk, image, flat != 0, Track(track), Sector(sector));
-    put_bytes(bytes, out, length)
 }
 
 // The letters of a refusal's word, by its number: at most 17, and none where no refusal has the number, as for 0. 12.
 #[unsafe(no_mangle)]
 pub extern "C" fn dos33_refusal_word(number: u8, out: &mut [u8], length: &mut u64) -> u8
-    ensures { Exports (given (letters_of number)) out.old out.new length.old length.new result }
+    ensures { Exports (Ok (letters_of number)) out.old out.new length.old length.new result }
 {
-    let word = outcome::refusal_word(number);
-    let letters = word.0;
-    put_bytes(part(&letters, 0, word.1 as usize), out, length)
-}
-
-// Puts the values to the front of the elements.
-fn copy_fields(values: &[u64], fields: &mut [u64])
-    requires { length values.now ≤ length fields.old }
-    ensures { fields.new ≡ values.now ++ drop (length values.now) fields.old }
-{
-    let mut k: usize = 0;
-    while k < values.len() {
-        fields[k] = values[k];
-        k += 1;
-    }
+    let letters = letters_of(number);
+    tell(put_bytes(letters.as_bytes(), out), length)
 }
 
 // Hands the values over; 12 where there are too few elements.
-fn put_fields(values: &[u64], fields: &mut [u64]) -> u8
-    ensures { Fields (given values.now) fields.old fields.new result }
+fn put_fields(values: &[u64], fields: &mut [u64]) -> Result<(), Refusal>
+    ensures { Puts (Ok values.now) fields.old fields.new result }
 {
     if fields.len() < values.len() {
-        return TRAY_SHORT;
+        return Err(Refusal::TrayShort);
     }
-    copy_fields(values, fields);
-    0
+    fields[..values.len()].copy_from_slice(values);
+    Ok(())
 }
 
 // The direction of a VTOC as its byte.
@@ -383,39 +401,33 @@ fn direction_byte(disk: &[u8]) -> u8
     disk::byte_of(disk, disk::sectors_of(disk), table, 49)
 }
 
-// Thirteen numbers as elements.
-fn vtoc_values(
-    track: u8,
-    sector: u8,
-    release: u8,
-    volume: u8,
-    pairs: u8,
-    last: u8,
-    direction: u8,
-    tracks: u8,
-    sectors: u8,
-    size: u16,
-    free: u32,
-    used: u32,
-    percent: u32,
-) -> [u64; 13]
-    ensures { result ≡ track ∷ sector ∷ release ∷ volume ∷ pairs ∷ last ∷ direction ∷ tracks ∷ sectors ∷ size ∷ free ∷ used ∷ percent ∷ [] }
+// The thirteen numbers of a table, with the byte of its direction.
+fn vtoc_values(v: VolumeTableOfContents, direction: u8) -> [u64; 13]
+    ensures { result ≡ vtoc_values v direction }
 {
     [
-        track as u64,
-        sector as u64,
-        release as u64,
-        volume as u64,
-        pairs as u64,
-        last as u64,
+        v.track_number_of_first_catalog_sector as u64,
+        v.sector_number_of_first_catalog_sector as u64,
+        v.release_number_of_dos as u64,
+        v.diskette_volume_number as u64,
+        v.maximum_number_of_track_sector_pairs as u64,
+        v.last_track_where_sectors_were_allocated as u64,
         direction as u64,
-        tracks as u64,
-        sectors as u64,
-        size as u64,
-        free as u64,
-        used as u64,
-        percent as u64,
+        v.number_of_tracks_per_diskette as u64,
+        v.number_of_sectors_per_track as u64,
+        v.number_of_bytes_per_sector as u64,
+        v.free as u64,
+        v.used as u64,
+        v.percent_used as u64,
     ]
+}
+
+// Hands the numbers of a VTOC over.
+fn put_vtoc(disk: &[u8], fields: &mut [u64]) -> Result<(), Refusal>
+    ensures { Puts (vtoc_numbers disk.now) fields.old fields.new result }
+{
+    let v = disk::parse_volume_table_of_contents(disk)?;
+    put_fields(&vtoc_values(v, direction_byte(disk)), fields)
 }
 
 // The numbers of a VTOC. 1, 2, 12.
@@ -423,37 +435,14 @@ fn vtoc_values(
 pub extern "C" fn dos33_vtoc(disk: &[u8], fields: &mut [u64]) -> u8
     ensures { Fields (vtoc_numbers disk.now) fields.old fields.new result }
 {
-    let v = disk::parse_volume_table_of_contents(disk);
-    if v.refusal != 0 {
-        return v.refusal;
-    }
-    let values = vtoc_values(
-        v.track_number_of_first_catalog_sector,
-        v.sector_number_of_first_catalog_sector,
-        v.release_number_of_dos,
-        v.diskette_volume_number,
-        v.maximum_number_of_track_sector_pairs,
-        v.last_track_where_sectors_were_allocated,
-        direction_byte(disk),
-        v.number_of_tracks_per_diskette,
-        v.number_of_sectors_per_track,
-        v.number_of_bytes_per_sector,
-        v.free,
-        v.used,
-        v.percent_used,
-    );
-    put_fields(&values, fields)
+    number_of(put_vtoc(disk, fields))
 }
 
-// The numbers of a survey. 1 to 6, 12.
-#[unsafe(no_mangle)]
-pub extern "C" fn dos33_survey(disk: &[u8], fields: &mut [u64]) -> u8
-    ensures { Fields (survey_numbers disk.now) fields.old fields.new result }
+// Hands the numbers of a survey over.
+fn put_survey(disk: &[u8], fields: &mut [u64]) -> Result<(), Refusal>
+    ensures { Puts (survey_numbers disk.now) fields.old fields.new result }
 {
-    let s = files::survey(disk);
-    if s.refusal != 0 {
-        return s.refusal;
-    }
+    let s = files::survey(disk)?;
     let values = [
         s.volume as u64,
         s.entries as u64,
@@ -466,15 +455,26 @@ pub extern "C" fn dos33_survey(disk: &[u8], fields: &mut [u64]) -> u8
     put_fields(&values, fields)
 }
 
-// The numbers of the holders: sectors held by no one, by one, by more; held ones that the map calls free; 1 for a clean disk. 1 to 6, 12.
+// The numbers of a survey. 1 to 6, 12.
 #[unsafe(no_mangle)]
-pub extern "C" fn dos33_holders(disk: &[u8], fields: &mut [u64]) -> u8
-    ensures { Fields (holder_numbers disk.now) fields.old fields.new result }
+pub extern "C" fn dos33_survey(disk: &[u8], fields: &mut [u64]) -> u8
+    ensures { Fields (survey_numbers disk.now) fields.old fields.new result }
 {
-    let h = holders::holders(disk);
-    if h.refusal != 0 {
-        return h.refusal;
-    }
+    number_of(put_survey(disk, fields))
+}
+
+// 1 for yes, 0 for no.
+fn bit(b: bool) -> u64
+    ensures { result ≡ cond b 1 0 }
+{
+    if b { 1 } else { 0 }
+}
+
+// Hands the numbers of the holders over.
+fn put_holders(disk: &[u8], fields: &mut [u64]) -> Result<(), Refusal>
+    ensures { Puts (holder_numbers disk.now) fields.old fields.new result }
+{
+    let h = holders::holders(disk)?;
     let values = [
         h.unheld as u64,
         h.held_once as u64,
@@ -485,13 +485,30 @@ pub extern "C" fn dos33_holders(disk: &[u8], fields: &mut [u64]) -> u8
     put_fields(&values, fields)
 }
 
+// The numbers of the holders: sectors held by no one, by one, by more; held ones that the map calls free; 1 for a clean disk. 1 to 6, 12.
+#[unsafe(no_mangle)]
+pub extern "C" fn dos33_holders(disk: &[u8], fields: &mut [u64]) -> u8
+    ensures { Fields (holder_numbers disk.now) fields.old fields.new result }
+{
+    number_of(put_holders(disk, fields))
+}
+
 // What saves of these lengths, in order, will need: data sectors, list sectors and entry lines in all, then for each length 1 where its save would end in 21,
 // else 0. 25, 1 to 6, 20, 12.
 #[unsafe(no_mangle)]
 pub extern "C" fn dos33_forecast(disk: &[u8], lengths: &[u64], fields: &mut [u64]) -> u8
     ensures { Fields (forecast_numbers disk.now lengths.now) fields.old fields.new result }
 {
-    forecast::forecast(disk, lengths, fields).refusal
+    number_of(forecast::forecast(disk, lengths, fields))
+}
+
+// Hands the numbers of an archive over.
+fn put_opened(archive: &[u8], fields: &mut [u64]) -> Result<(), Refusal>
+    ensures { Puts (open_numbers archive.now) fields.old fields.new result }
+{
+    let o = reader::open(archive)?;
+    let values = [o.volume as u64, o.first as u64, o.blocks as u64];
+    put_fields(&values, fields)
 }
 
 // The numbers of an archive that is opened. 13, 12.
@@ -499,29 +516,34 @@ pub extern "C" fn dos33_forecast(disk: &[u8], lengths: &[u64], fields: &mut [u64
 pub extern "C" fn dos33_archive_open(archive: &[u8], fields: &mut [u64]) -> u8
     ensures { Fields (open_numbers archive.now) fields.old fields.new result }
 {
-    let o = reader::open(archive);
-    if o.refusal != 0 {
-        return o.refusal;
-    }
-    let values = [o.volume as u64, o.first as u64, o.blocks as u64];
-    put_fields(&values, fields)
+    number_of(put_opened(archive, fields))
 }
 
-// Hands the numbers of an entry over.
-fn put_entry(e: Entry, fields: &mut [u64]) -> u8
-    ensures { Fields (given (entry_fields e)) fields.old fields.new result }
+// The eight numbers of an entry; zeros where there is none.
+fn entry_values(found: Option<Entry>) -> [u64; 8]
+    ensures { result ≡ entry_fields found }
 {
-    let values = [
-        e.found as u64,
-        e.next as u64,
-        e.first as u64,
-        e.kind as u64,
-        e.locked as u64,
-        e.name_length as u64,
-        e.count as u64,
-        e.size as u64,
-    ];
-    put_fields(&values, fields)
+    match found {
+        Some(e) => [
+            1,
+            e.next as u64,
+            e.first as u64,
+            e.kind as u64,
+            e.locked as u64,
+            e.name_length as u64,
+            e.count as u64,
+            e.size as u64,
+        ],
+        None => [0; 8],
+    }
+}
+
+// Hands the numbers of an archive's entry over.
+fn put_entry(archive: &[u8], block: u64, fields: &mut [u64]) -> Result<(), Refusal>
+    ensures { Puts (entry_numbers archive.now block) fields.old fields.new result }
+{
+    let found = reader::entry_at(archive, block)?;
+    put_fields(&entry_values(found), fields)
 }
 
 // The numbers of an archive's entry by its block; eight zeros at the end. 13, 12.
@@ -529,40 +551,31 @@ fn put_entry(e: Entry, fields: &mut [u64]) -> u8
 pub extern "C" fn dos33_archive_entry(archive: &[u8], block: u64, fields: &mut [u64]) -> u8
     ensures { Fields (entry_numbers archive.now block) fields.old fields.new result }
 {
-    let e = reader::entry_at(archive, block);
-    if e.refusal != 0 {
-        return e.refusal;
-    }
-    put_entry(e, fields)
+    number_of(put_entry(archive, block, fields))
 }
 
 // A block that may have an entry, else 0.
 fn block_number(block: u64) -> u16
     ensures { result ≡ cond (ltb block 4096) block 0 }
 {
-    if block < 4096 {
-        return block as u16;
-    }
-    0
+    if block < 4096 { block as u16 } else { 0 }
 }
 
 // The same of a block that opening or a step gave: that block alone is looked at. 12.
 #[unsafe(no_mangle)]
 pub extern "C" fn dos33_archive_step(archive: &[u8], block: u64, fields: &mut [u64]) -> u8
-    ensures { Fields (given (entry_fields (entry_step archive.now block))) fields.old fields.new result }
+    ensures { Fields (Ok (entry_fields (entry_step archive.now block))) fields.old fields.new result }
 {
-    let e = cursor::entry_from(archive, block_number(block));
-    put_entry(e, fields)
+    let found = cursor::entry_from(archive, block_number(block));
+    number_of(put_fields(&entry_values(found), fields))
 }
 
-// 1 for yes, 0 for no.
-fn bit(b: bool) -> u64
-    ensures { result ≡ cond b 1 0 }
+// Hands over what the recogniser says.
+fn put_format(data: &[u8], fields: &mut [u64]) -> Result<(), Refusal>
+    ensures { Puts (format_numbers «data».now) fields.old fields.new result }
 {
-    if b {
-        return 1;
-    }
-    0
+    let found = records::format_from_data(data)?;
+    put_fields(&[bit(found)], fields)
 }
 
 // 1 for a DOS 3.3 disk, else 0. 17, 12.
@@ -570,10 +583,5 @@ fn bit(b: bool) -> u64
 pub extern "C" fn dos33_format_from_data(data: &[u8], fields: &mut [u64]) -> u8
     ensures { Fields (format_numbers «data».now) fields.old fields.new result }
 {
-    let f = records::format_from_data(data);
-    if f.refusal != 0 {
-        return f.refusal;
-    }
-    let values = [bit(f.dos33)];
-    put_fields(&values, fields)
+    number_of(put_format(data, fields))
 }

@@ -18,7 +18,7 @@ ghost use Rattle.std.specs.Prelude.{◌<◌, ◌≤◌};
 
 use disk::{Place, Sector, Track, sector_start};
 use lists::{byte_at, copy_at, fill_at, part};
-use trial::{number, place, place_16, poke, put_ramp};
+use trial::{filled, number, place, place_16, poke, put_ramp};
 
 // The sectors of a track of an edition: 13, else 16.
 fn per_of(edition: u8) -> u8
@@ -54,7 +54,7 @@ pub fn disk_of(disks: &[u8], edition: u8) -> &[u8] {
 
 // A disk of zeros of each edition. What they hold is not promised, so that lending them costs no proof.
 pub fn disks() -> [u8; 259840] {
-    [0; 259840]
+    filled(0)
 }
 
 // Where a sector of a disk begins.
@@ -224,13 +224,11 @@ fn values(data: &[u8]) -> [u8; 411] {
 
 // Each value against the one before it, as a nibble; the sum last.
 fn encoded(vals: &[u8; 411]) -> [u8; 411] {
-    let table = WRITES;
     let mut out = [0u8; 411];
     let mut last: u8 = 0;
-    for k in 0..411usize {
-        let v = byte_at(vals, k);
-        poke(&mut out, k, table[((v ^ last) % 32) as usize]);
-        last = v;
+    for k in 0..411 {
+        out[k] = WRITES[((vals[k] ^ last) % 32) as usize];
+        last = vals[k];
     }
     out
 }
@@ -242,17 +240,17 @@ fn append_data_13(nibbles: &mut [u8], used: usize, data: &[u8]) -> usize {
 
 fn append_data_16(nibbles: &mut [u8], used: usize, data: &[u8]) -> usize {
     let mut out = [0u8; 343];
-    nibble::encode_sector(data, &mut out);
+    let _ = nibble::encode_sector(data, &mut out);
     append(nibbles, used, &out)
 }
 
 fn append_data(nibbles: &mut [u8], used: usize, edition: u8, data: &[u8]) -> usize {
     let at = append(nibbles, used, &[0xD5, 0xAA, 0xAD]);
-    if edition == 13 {
-        let end = append_data_13(nibbles, at, data);
-        return append(nibbles, end, &[0xDE, 0xAA, 0xEB]);
-    }
-    let end = append_data_16(nibbles, at, data);
+    let end = if edition == 13 {
+        append_data_13(nibbles, at, data)
+    } else {
+        append_data_16(nibbles, at, data)
+    };
     append(nibbles, end, &[0xDE, 0xAA, 0xEB])
 }
 
@@ -290,25 +288,17 @@ fn append_sector(
 
 // Track and sector of sector number k, counted from the start of a disk.
 fn track_of(edition: u8, k: u16) -> u8 {
-    if edition == 13 {
-        return (k / 13 % 256) as u8;
-    }
-    (k / 16 % 256) as u8
+    (k / (per_of(edition) as u16) % 256) as u8
 }
 
 fn sector_of(edition: u8, k: u16) -> u8 {
-    if edition == 13 {
-        return (k % 13) as u8;
-    }
-    (k % 16) as u8
+    (k % (per_of(edition) as u16)) as u8
 }
 
 // The number n further, in a ring of a disk's sectors.
 fn further(edition: u8, k: u16, n: u8) -> u16 {
-    if edition == 13 {
-        return (k % 455 + n as u16) % 455;
-    }
-    (k % 560 + n as u16) % 560
+    let all = 35 * (per_of(edition) as u16);
+    (k % all + n as u16) % all
 }
 
 // Sector number k of a disk, behind a gap.

@@ -3,249 +3,159 @@
 // second argument is then `--as=`, with what is to be kept of a disk that is replaced.
 #![tactic(auto)]
 
-use arguments::{
-    ALL, ARCHIVE, CHECK, CROSSED, DELETE, DENIBBLIZE, EMPTY, FILES, FORCE, FORECAST, GET, JSON,
-    LIST, MAP, NIBBLIZE, OUT, RAW, SAVE, SHOW, SURVEY, SVG, argument, changes, command_of, dashes,
-    has_long, has_option, has_words, is_dash, out_word, said, unknown_command, unknown_option,
-    usage, value_of, word, wrong_options,
-};
-use file_walk::{refuse, refuse_overlong};
-use outcome::{NOT_ITS_RETURN, OVERLONG};
+use arguments::{Arguments, Command, Opt, read_arguments};
+use changing::Target;
+use fetching::Terms;
+use fields::{Edition, per_track};
+use file_walk::{refuse, refuse_archive};
+use outcome::Refusal;
+use screen::space::{archive_space, disk_space, stream_space};
 use screen::{
-    GOOD, REFUSED, STDERR_FILENO, STDOUT_FILENO, TROUBLE, finish, input, json, names, refusal, say,
-    tell, text, text_number,
+    Failure, STDERR_FILENO, STDOUT_FILENO, finish, input, json, names, number, refusal, say, tell,
+    text, text_number,
 };
+use side_report::caller_said;
+use std::env::Env;
 use storing::{read_file, write_file};
-
-// Space for the longest archive, 4,096 blocks, and for the longest picture.
-fn space() -> [u8; 1048576] {
-    [0; 1048576]
-}
-
-// Space for a disk.
-fn disk_space() -> [u8; 143360] {
-    [0; 143360]
-}
-
-// Space for a nibble stream.
-fn stream_space() -> [u8; 232960] {
-    [0; 232960]
-}
+use stream_report::{Taking, say_other, say_sectors};
 
 // Saves to the file that word k names.
-fn save_word(rt: &HostRuntime, first: usize, k: usize, bytes: &[u8]) -> u8 {
-    let mut out = io::buffer();
-    let n = word(rt, first, k, &mut out);
-    write_file(
-        rt,
-        lists::part(&out, 0, n),
-        bytes,
-        has_option(rt, first, FORCE),
-    )
+fn save_word(
+    rt: &HostRuntime,
+    arguments: &Arguments,
+    k: usize,
+    bytes: &[u8],
+) -> Result<(), Failure> {
+    write_file(rt, arguments.word(k), bytes, arguments.has(Opt::Force))
 }
 
-fn draw_svg(rt: &HostRuntime, disk: &[u8], from: &[u8], first: usize) -> u8 {
-    let mut out = space();
-    let n = svg::draw(disk, from, &mut out);
-    save_word(rt, first, 2, lists::part(&out, 0, n))
-}
-
-fn draw_map(rt: &HostRuntime, disk: &[u8], from: &[u8], first: usize) -> u8 {
-    let s = files::survey(disk);
-    if s.refusal != 0 {
-        return refuse(disk, s.refusal);
-    }
-    if has_option(rt, first, SVG) {
-        return draw_svg(rt, disk, from, first);
+fn draw_map(rt: &HostRuntime, arguments: &Arguments, disk: &[u8]) -> Result<(), Failure> {
+    let survey = files::survey(disk).map_err(|why| refuse(disk, why))?;
+    if arguments.has(Opt::Svg) {
+        let picture = svg::draw(rt.alloc(), disk, survey, arguments.word(1))?;
+        return save_word(rt, arguments, 2, picture.as_bytes());
     }
     picture::draw(disk);
     finish(rt, b"\n")
 }
 
-fn crossed(rt: &HostRuntime, disk: &[u8]) -> u8 {
-    let h = holders::holders(disk);
-    if h.refusal != 0 {
-        return refuse(disk, h.refusal);
-    }
-    crossing::list(rt, disk, h)
+fn crossed(rt: &HostRuntime, disk: &[u8]) -> Result<(), Failure> {
+    let counts = holders::holders(disk).map_err(|why| refuse(disk, why))?;
+    crossing::list(rt, disk, counts)
 }
 
-fn get_one(rt: &HostRuntime, disk: &[u8], first: usize) -> u8 {
-    let mut shown = io::buffer();
-    let n = word(rt, first, 2, &mut shown);
-    let mut to = io::buffer();
-    let k = word(rt, first, 3, &mut to);
-    fetching::get(
-        rt,
-        disk,
-        lists::part(&shown, 0, n),
-        lists::part(&to, 0, k),
-        has_option(rt, first, EMPTY),
-        has_option(rt, first, FORCE),
-    )
+fn get(rt: &HostRuntime, arguments: &Arguments, disk: &[u8]) -> Result<(), Failure> {
+    let terms = Terms {
+        empty: arguments.has(Opt::Empty),
+        force: arguments.has(Opt::Force),
+    };
+    if arguments.has(Opt::All) {
+        return fetching::get_all(rt, disk, arguments.word(2), terms);
+    }
+    fetching::get(rt, disk, arguments.word(2), arguments.word(3), terms)
 }
 
-fn get(rt: &HostRuntime, disk: &[u8], first: usize) -> u8 {
-    if !has_option(rt, first, ALL) {
-        return get_one(rt, disk, first);
-    }
-    let mut folder = io::buffer();
-    let n = word(rt, first, 2, &mut folder);
-    fetching::get_all(
-        rt,
-        disk,
-        lists::part(&folder, 0, n),
-        has_option(rt, first, EMPTY),
-        has_option(rt, first, FORCE),
-    )
+fn write_archive(rt: &HostRuntime, arguments: &Arguments, disk: &[u8]) -> Result<(), Failure> {
+    let mut out = archive_space();
+    let written = writer::write_archive(disk, &mut out);
+    let length = written.map_err(|why| refuse_archive(disk, why))?;
+    save_word(rt, arguments, 2, lists::part(&out, 0, length))
 }
 
-fn write_archive(rt: &HostRuntime, disk: &[u8], first: usize) -> u8 {
-    let mut out = space();
-    let h = writer::write_archive(disk, &mut out);
-    if h.refusal == OVERLONG {
-        return refuse_overlong(disk);
-    }
-    if h.refusal != 0 {
-        return refuse(disk, h.refusal);
-    }
-    save_word(rt, first, 2, lists::part(&out, 0, h.length))
+// Says that an archive is not that of the disk, and where they differ.
+fn refuse_other(disk: &[u8], archive: &[u8]) -> Failure {
+    refusal(STDERR_FILENO, Refusal::NotItsReturn);
+    let mut out = archive_space();
+    let length = writer::write_archive(disk, &mut out).unwrap_or(0);
+    archive_report::tell_difference(lists::part(&out, 0, length), archive);
+    Failure::Refused
 }
 
-fn refuse_archive(disk: &[u8], archive: &[u8]) -> u8 {
-    refusal(STDERR_FILENO, NOT_ITS_RETURN);
-    let mut out = space();
-    let h = writer::write_archive(disk, &mut out);
-    archive_report::tell_difference(lists::part(&out, 0, h.length), archive);
-    REFUSED
+fn check(rt: &HostRuntime, arguments: &Arguments, disk: &[u8]) -> Result<(), Failure> {
+    let mut space = archive_space();
+    let length = read_file(rt, arguments.word(2), &mut space)?;
+    let archive = lists::part(&space, 0, length);
+    match writer::check_archive(disk, archive) {
+        Ok(()) => finish(rt, b"pass: this is the archive of this disk\n"),
+        Err(Refusal::NotItsReturn) => Err(refuse_other(disk, archive)),
+        Err(why) => Err(refuse_archive(disk, why)),
+    }
 }
 
-fn check_bytes(rt: &HostRuntime, disk: &[u8], archive: &[u8]) -> u8 {
-    let why = writer::check_archive(disk, archive);
-    if why == 0 {
-        return finish(rt, b"pass: this is the archive of this disk\n");
-    }
-    if why == NOT_ITS_RETURN {
-        return refuse_archive(disk, archive);
-    }
-    if why == OVERLONG {
-        return refuse_overlong(disk);
-    }
-    refuse(disk, why)
+fn refuse_nibblize(why: Refusal) -> Failure {
+    refusal(STDERR_FILENO, why);
+    tell(b"\n  streams of 13 sectors a track are read, not written\n");
+    Failure::Refused
 }
 
-fn check(rt: &HostRuntime, disk: &[u8], first: usize) -> u8 {
-    let mut from = io::buffer();
-    let n = word(rt, first, 2, &mut from);
-    let mut archive = space();
-    let l = read_file(rt, lists::part(&from, 0, n), &mut archive);
-    if !l.good {
-        return TROUBLE;
-    }
-    check_bytes(rt, disk, lists::part(&archive, 0, l.length))
-}
-
-fn nibblize(rt: &HostRuntime, disk: &[u8], first: usize) -> u8 {
+fn nibblize(rt: &HostRuntime, arguments: &Arguments, disk: &[u8]) -> Result<(), Failure> {
     let mut out = stream_space();
-    let h = nibblize::nibblize(disk, &mut out);
-    if h.refusal != 0 {
-        refusal(STDERR_FILENO, h.refusal);
-        tell(b"\n  streams of 13 sectors a track are read, not written\n");
-        return REFUSED;
-    }
-    save_word(rt, first, 2, lists::part(&out, 0, h.length))
+    let written = nibblize::nibblize(disk, &mut out);
+    let length = written.map_err(|why| refuse_nibblize(why))?;
+    save_word(rt, arguments, 2, lists::part(&out, 0, length))
 }
 
-// Where a changed disk goes: what stands behind --out, or where it came from. Its length.
-fn way_out(rt: &HostRuntime, from: &[u8], first: usize, to: &mut [u8]) -> usize {
-    if has_option(rt, first, OUT) {
-        return value_of(rt, first, OUT, to);
+// Where a changed disk goes: what stands behind --out, or where it came from.
+fn target_of(arguments: &Arguments) -> Target<'_> {
+    let force = arguments.has(Opt::Force);
+    match arguments.value_of(Opt::Out) {
+        Some(path) => Target {
+            path,
+            over: false,
+            force,
+        },
+        None => Target {
+            path: arguments.word(1),
+            over: true,
+            force,
+        },
     }
-    lists::copy_at(from, to, 0);
-    from.len()
 }
 
-fn save(rt: &HostRuntime, from: &[u8], disk: &[u8], first: usize) -> u8 {
-    let mut name = io::buffer();
-    let n = word(rt, first, 2, &mut name);
-    let mut at = io::buffer();
-    let k = word(rt, first, 3, &mut at);
-    let mut file = io::buffer();
-    let l = word(rt, first, 4, &mut file);
-    let mut to = io::buffer();
-    let m = way_out(rt, from, first, &mut to);
+fn save(rt: &HostRuntime, arguments: &Arguments, disk: &[u8]) -> Result<(), Failure> {
     changing::save(
         rt,
         disk,
-        first,
-        lists::part(&name, 0, n),
-        lists::part(&at, 0, k),
-        lists::part(&file, 0, l),
-        lists::part(&to, 0, m),
-        !has_option(rt, first, OUT),
-        has_option(rt, first, FORCE),
+        caller_said(arguments),
+        arguments.word(2),
+        arguments.word(3),
+        arguments.word(4),
+        target_of(arguments),
     )
 }
 
-fn delete(rt: &HostRuntime, from: &[u8], disk: &[u8], first: usize) -> u8 {
-    let mut name = io::buffer();
-    let n = word(rt, first, 2, &mut name);
-    let mut to = io::buffer();
-    let m = way_out(rt, from, first, &mut to);
+fn delete(rt: &HostRuntime, arguments: &Arguments, disk: &[u8]) -> Result<(), Failure> {
     changing::delete(
         rt,
         disk,
-        first,
-        lists::part(&name, 0, n),
-        lists::part(&to, 0, m),
-        !has_option(rt, first, OUT),
-        has_option(rt, first, FORCE),
+        caller_said(arguments),
+        arguments.word(2),
+        target_of(arguments),
     )
 }
 
-// A command on a flat disk, which was read from `from`.
-fn on_flat(rt: &HostRuntime, command: u8, from: &[u8], disk: &[u8], first: usize) -> u8 {
-    match command {
-        LIST => disk_report::list(
-            rt,
-            disk,
-            has_option(rt, first, RAW),
-            has_option(rt, first, JSON),
-        ),
-        SURVEY => disk_report::survey(rt, disk, has_option(rt, first, JSON)),
-        MAP => draw_map(rt, disk, from, first),
-        CROSSED => crossed(rt, disk),
-        GET => get(rt, disk, first),
-        SAVE => save(rt, from, disk, first),
-        DELETE => delete(rt, from, disk, first),
-        FORECAST => plan_report::forecast(rt, disk, first, has_option(rt, first, FILES)),
-        ARCHIVE => write_archive(rt, disk, first),
-        CHECK => check(rt, disk, first),
-        NIBBLIZE => nibblize(rt, disk, first),
-        _ => save_word(rt, first, 2, disk),
+// A command on a flat disk.
+fn on_flat(rt: &HostRuntime, arguments: &Arguments, disk: &[u8]) -> Result<(), Failure> {
+    let json = arguments.has(Opt::Json);
+    match arguments.command {
+        Command::List => disk_report::list(rt, disk, arguments.has(Opt::Raw), json),
+        Command::Survey => disk_report::survey(rt, disk, json),
+        Command::Map => draw_map(rt, arguments, disk),
+        Command::Crossed => crossed(rt, disk),
+        Command::Get => get(rt, arguments, disk),
+        Command::Save => save(rt, arguments, disk),
+        Command::Delete => delete(rt, arguments, disk),
+        Command::Forecast => plan_report::forecast(rt, arguments, disk),
+        Command::Archive => write_archive(rt, arguments, disk),
+        Command::Check => check(rt, arguments, disk),
+        Command::Nibblize => nibblize(rt, arguments, disk),
+        Command::Show | Command::Denibblize => save_word(rt, arguments, 2, disk),
     }
-}
-
-// Word k is `-`.
-fn has_dash(rt: &HostRuntime, first: usize, k: usize) -> bool {
-    let mut w = io::buffer();
-    let n = word(rt, first, k, &mut w);
-    is_dash(lists::part(&w, 0, n))
-}
-
-// The output is standard output.
-fn out_is_dash(rt: &HostRuntime, command: u8, first: usize) -> bool {
-    if !changes(command) {
-        return has_dash(rt, first, out_word(rt, command, first));
-    }
-    let mut w = io::buffer();
-    let n = value_of(rt, first, OUT, &mut w);
-    is_dash(lists::part(&w, 0, n))
 }
 
 // Where it is said what was read: on standard output, or on standard error where the output itself goes there.
-fn notes_to(rt: &HostRuntime, command: u8, first: usize) -> i32 {
-    if out_is_dash(rt, command, first) {
+fn notes_to(arguments: &Arguments) -> i32 {
+    if arguments.out_is_dash() {
         return STDERR_FILENO;
     }
     STDOUT_FILENO
@@ -258,81 +168,82 @@ fn object_front(from: &[u8], form: &[u8], size: u64, per: u8) {
     say(b",\n  \"form\": ");
     json::string(form);
     text_number(STDOUT_FILENO, b",\n  \"bytes\": ", size);
-    text_number(STDOUT_FILENO, b",\n  \"sectors_per_track\": ", per as u64);
+    text_number(
+        STDOUT_FILENO,
+        b",\n  \"sectors_per_track\": ",
+        u64::from(per),
+    );
     say(b",\n  \"taken_by\": ");
 }
 
 // The sectors a track of another disk that a stream holds too.
-fn object_other(held: u8) {
+fn object_other(held: Option<Edition>) {
     say(b",\n  \"other_disk\": ");
-    json::known(held != 0, held as u64);
+    json::known(held.map(|ed| u64::from(per_track(ed))));
 }
 
 // The rest of an object where a stream holds no disk.
-fn object_refused(rt: &HostRuntime, command: u8, why: u8) {
-    object_other(0);
-    if command == LIST {
-        disk_report::none_listed(why);
-        return;
+fn object_refused(rt: &HostRuntime, command: Command, why: Refusal) {
+    object_other(None);
+    match command {
+        Command::List => disk_report::none_listed(why),
+        _ => disk_report::none_surveyed(rt, why),
     }
-    disk_report::none_surveyed(rt, why);
+}
+
+// Says why a stream holds no disk.
+fn refuse_stream(
+    rt: &HostRuntime,
+    arguments: &Arguments,
+    stream: &[u8],
+    taking: Taking,
+    why: Refusal,
+) -> Failure {
+    if arguments.has(Opt::Json) {
+        object_refused(rt, arguments.command, why);
+    }
+    taking.refuse(stream, why)
 }
 
 // A command on a nibble stream: it is denibblized first.
 fn on_stream(
     rt: &HostRuntime,
-    command: u8,
-    from: &[u8],
-    bytes: &[u8],
-    per: u8,
-    guessed: bool,
-    first: usize,
-) -> u8 {
+    arguments: &Arguments,
+    stream: &[u8],
+    taking: Taking,
+) -> Result<(), Failure> {
     let mut image = disk_space();
-    let h = stream_report::denibblize_by(bytes, per, &mut image);
-    if h.refusal != 0 {
-        if has_option(rt, first, JSON) {
-            object_refused(rt, command, h.refusal);
-        }
-        return stream_report::refuse(bytes, h.refusal, per, guessed);
-    }
-    let held = stream_report::other_held(bytes, per, guessed);
-    if has_option(rt, first, JSON) {
+    let read = taking.denibblize(stream, &mut image);
+    let length = read.map_err(|why| refuse_stream(rt, arguments, stream, taking, why))?;
+    let held = taking.other_held(stream);
+    if arguments.has(Opt::Json) {
         object_other(held);
     } else {
-        stream_report::say_other(notes_to(rt, command, first), held);
+        say_other(notes_to(arguments), held);
     }
-    on_flat(rt, command, from, lists::part(&image, 0, h.length), first)
+    on_flat(rt, arguments, lists::part(&image, 0, length))
 }
 
 // What is said of a stream before it is read.
-fn say_stream(fd: i32, from: &[u8], size: u64, per: u8, guessed: bool, mark: u8) {
+fn say_stream(fd: i32, from: &[u8], size: u64, taking: Taking) {
     input(fd, from, b"taken as a nibble stream", size);
     text(fd, b",\n  ");
-    stream_report::say_sectors(fd, per);
-    stream_report::say_reason(fd, per, guessed, mark);
+    say_sectors(fd, taking.sectors());
+    taking.say_reason(fd);
 }
 
 // A file that is taken as a nibble stream. The first line says so.
-fn as_stream(rt: &HostRuntime, command: u8, from: &[u8], bytes: &[u8], first: usize) -> u8 {
-    let told = said(rt, first);
-    let mark = fields::recognize_prologue(bytes);
-    let per = stream_report::taken_by(told, mark);
+fn as_stream(rt: &HostRuntime, arguments: &Arguments, bytes: &[u8]) -> Result<(), Failure> {
+    let from = arguments.word(1);
     let size = bytes.len() as u64;
-    if has_option(rt, first, JSON) {
-        object_front(from, b"nibble stream", size, per);
-        stream_report::reason_string(told == 0, mark);
+    let taking = Taking::of(arguments.sectors_per_track(), bytes);
+    if arguments.has(Opt::Json) {
+        object_front(from, b"nibble stream", size, taking.sectors());
+        taking.reason_string();
     } else {
-        say_stream(
-            notes_to(rt, command, first),
-            from,
-            size,
-            per,
-            told == 0,
-            mark,
-        );
+        say_stream(notes_to(arguments), from, size, taking);
     }
-    on_stream(rt, command, from, bytes, per, told == 0, first)
+    on_stream(rt, arguments, bytes, taking)
 }
 
 fn is_flat(bytes: &[u8]) -> bool {
@@ -343,141 +254,86 @@ fn is_flat(bytes: &[u8]) -> bool {
 fn say_flat(fd: i32, from: &[u8], size: u64, per: u8) {
     input(fd, from, b"flat disk", size);
     text(fd, b", ");
-    stream_report::say_sectors(fd, per);
+    say_sectors(fd, per);
     text(fd, b"\n");
 }
 
 // A file that is a flat disk by its length.
-fn as_flat(rt: &HostRuntime, command: u8, from: &[u8], bytes: &[u8], first: usize) -> u8 {
+fn as_flat(rt: &HostRuntime, arguments: &Arguments, bytes: &[u8]) -> Result<(), Failure> {
+    let from = arguments.word(1);
     let per = disk::sectors_of(bytes);
     let size = bytes.len() as u64;
-    if has_option(rt, first, JSON) {
+    if arguments.has(Opt::Json) {
         object_front(from, b"flat", size, per);
         json::string(b"length");
-        object_other(0);
+        object_other(None);
     } else {
-        say_flat(notes_to(rt, command, first), from, size, per);
+        say_flat(notes_to(arguments), from, size, per);
     }
-    on_flat(rt, command, from, bytes, first)
+    on_flat(rt, arguments, bytes)
 }
 
 // A command on a disk: flat, or by its length a nibble stream. The first line says which.
-fn on_disk(rt: &HostRuntime, command: u8, from: &[u8], bytes: &[u8], first: usize) -> u8 {
-    if changes(command) {
-        if changing::in_prodos_order(from) {
-            return TROUBLE;
+fn on_disk(rt: &HostRuntime, arguments: &Arguments, bytes: &[u8]) -> Result<(), Failure> {
+    let from = arguments.word(1);
+    if arguments.command.changes() {
+        changing::check_order(from)?;
+        if !is_flat(bytes) {
+            return Err(changing::not_flat(from));
         }
     }
-    if changes(command) & !is_flat(bytes) {
-        return changing::not_flat(from);
+    if (arguments.command == Command::Denibblize) | !is_flat(bytes) {
+        return as_stream(rt, arguments, bytes);
     }
-    if (command == DENIBBLIZE) | !is_flat(bytes) {
-        return as_stream(rt, command, from, bytes, first);
-    }
-    if said(rt, first) != 0 {
+    if arguments.sectors_per_track().is_some() {
         tell(b"linefiles: ");
         names::input(STDERR_FILENO, from);
         tell(b" is a flat disk by its length;\n  --13 and --16 are for nibble streams\n");
-        return TROUBLE;
+        return Err(Failure::Trouble);
     }
-    as_flat(rt, command, from, bytes, first)
+    as_flat(rt, arguments, bytes)
 }
 
-// Reads the file that the command is about, and goes on with its bytes.
-fn act(rt: &HostRuntime, command: u8, first: usize) -> u8 {
-    let mut from = io::buffer();
-    let n = word(rt, first, 1, &mut from);
-    let path = lists::part(&from, 0, n);
-    let mut space = space();
-    let l = read_file(rt, path, &mut space);
-    if !l.good {
-        return TROUBLE;
+// Runs the command that stands among the arguments at `first`: reads the file that it is about, and goes on with its bytes.
+fn run(rt: &HostRuntime, first: usize) -> Result<(), Failure> {
+    let arguments = read_arguments(rt, first)?;
+    let from = arguments.word(1);
+    let mut space = archive_space();
+    let length = read_file(rt, from, &mut space)?;
+    let bytes = lists::part(&space, 0, length);
+    if arguments.command == Command::Show {
+        return archive_report::show(rt, from, bytes, arguments.has(Opt::Raw));
     }
-    let bytes = lists::part(&space, 0, l.length);
-    if command == SHOW {
-        return archive_report::show(rt, path, bytes, has_option(rt, first, RAW));
-    }
-    on_disk(rt, command, path, bytes, first)
+    on_disk(rt, &arguments, bytes)
 }
 
-// Whether `-` stands where a changed disk cannot come from it. Then this is said.
-fn wrong_dashes(rt: &HostRuntime, command: u8, first: usize) -> bool {
-    if !(changes(command) & has_dash(rt, first, 1)) {
-        return false;
+// The exit status of a run; what is wrong was said before, but that memory is short.
+fn status_of(done: Result<(), Failure>) -> u64 {
+    match done {
+        Ok(()) => 0,
+        Err(Failure::Refused) => 1,
+        Err(Failure::Trouble) => 2,
+        Err(Failure::OutOfMemory) => {
+            tell(b"linefiles: there is not enough memory\n");
+            2
+        },
     }
-    if !has_option(rt, first, OUT) {
-        tell(b"linefiles: standard input cannot be replaced; --out OUT says where the disk goes\n");
-        return true;
-    }
-    if (command == SAVE) & has_dash(rt, first, 4) {
-        tell(b"linefiles: disk and file cannot both be standard input\n");
-        return true;
-    }
-    false
 }
 
-// Whether `-` stands for two of the files that `forecast` reads. Then this is said.
-fn dash_twice(rt: &HostRuntime, command: u8, first: usize) -> bool {
-    if !((command == FORECAST) & has_option(rt, first, FILES)) {
-        return false;
-    }
-    if dashes(rt, first) < 2 {
-        return false;
-    }
-    tell(b"linefiles: only one of disk and files can be standard input\n");
-    true
-}
-
-fn run_command(rt: &HostRuntime, command: u8, first: usize) -> u8 {
-    if !has_words(rt, command, first) {
-        return usage(command);
-    }
-    if wrong_options(rt, command, first) {
-        return TROUBLE;
-    }
-    if (command == CHECK) & (has_dash(rt, first, 1) & has_dash(rt, first, 2)) {
-        tell(b"linefiles: disk and archive cannot both be standard input\n");
-        return TROUBLE;
-    }
-    if wrong_dashes(rt, command, first) | dash_twice(rt, command, first) {
-        return TROUBLE;
-    }
-    act(rt, command, first)
-}
-
-// Runs the command that stands among the arguments at `first`: the exit status.
-fn run(rt: &HostRuntime, first: usize) -> u8 {
-    if has_long(rt, first) {
-        tell(b"linefiles: an argument is longer than 4096 bytes\n");
-        return TROUBLE;
-    }
-    if unknown_option(rt, first) {
-        return TROUBLE;
-    }
-    let mut w = io::buffer();
-    let n = word(rt, first, 0, &mut w);
-    let name = lists::part(&w, 0, n);
-    let command = command_of(name);
-    if command == 0 {
-        return unknown_command(name);
-    }
-    run_command(rt, command, first)
-}
-
-fn put_status(status: u8) {
-    match status {
-        GOOD => text(3, b"0"),
-        REFUSED => text(3, b"1"),
-        _ => text(3, b"2"),
+// The first argument asks for the status.
+fn asks_status(rt: &HostRuntime) -> bool {
+    let mut w = [0u8; 8];
+    match rt.arg(1, &mut w) {
+        Ok(n) => lists::part(&w, 0, n) == b"--status".as_slice(),
+        Err(_) => false,
     }
 }
 
 fn main(rt: HostRuntime) {
-    let mut w = [0u8; 8];
-    let n = argument(&rt, 1, &mut w);
-    if lists::same(lists::part(&w, 0, n), b"--status") {
-        put_status(run(&rt, 3));
+    if asks_status(&rt) {
+        let status = status_of(run(&rt, 3));
+        number(3, status);
         return;
     }
-    run(&rt, 1);
+    status_of(run(&rt, 1));
 }

@@ -3,17 +3,14 @@
 
 ghost use Rattle.std.specs.Prelude.{◌≡◌, ◌+◌, ◌≤◌, length, get_or, take, drop, replicate};
 ghost use Rattle.lists.specs.Fill.{put, placed};
-ghost use Rattle.lists.specs.Same.{same, unlike_of};
+ghost use Rattle.lists.specs.Same.{same};
 ghost use Rattle.lists.specs.Words.{word_at, le2};
 
 // What stands at i, and 0 past the end.
 pub fn byte_at(s: &[u8], i: usize) -> u8
     ensures { result ≡ get_or s.now i 0 }
 {
-    if i < s.len() {
-        return s[i];
-    }
-    0
+    if i < s.len() { s[i] } else { 0 }
 }
 
 // The number of the two bytes at i, low byte first; past the end stand zeros.
@@ -42,30 +39,6 @@ pub fn part(s: &[u8], a: usize, n: usize) -> &[u8]
     &s[a..a + n]
 }
 
-// Puts all of src into dst from place at.
-fn copy_within(src: &[u8], dst: &mut [u8], at: usize)
-    requires { at + length src.now ≤ length dst.old }
-    ensures { dst.new ≡ put at src.now dst.old }
-{
-    let mut k: usize = 0;
-    while k < src.len() {
-        dst[at + k] = src[k];
-        k += 1;
-    }
-}
-
-// Puts n times v into dst from place at.
-fn fill_within(dst: &mut [u8], at: usize, n: usize, v: u8)
-    requires { at + n ≤ length dst.old }
-    ensures { dst.new ≡ put at (replicate n v) dst.old }
-{
-    let mut k: usize = 0;
-    while k < n {
-        dst[at + k] = v;
-        k += 1;
-    }
-}
-
 // Puts all of src into dst from place at; where it does not fit, dst stays as it is.
 pub fn copy_at(src: &[u8], dst: &mut [u8], at: usize)
     ensures { dst.new ≡ placed at src.now dst.old }
@@ -76,7 +49,7 @@ pub fn copy_at(src: &[u8], dst: &mut [u8], at: usize)
     if dst.len() - at < src.len() {
         return;
     }
-    copy_within(src, dst, at);
+    dst[at..at + src.len()].copy_from_slice(src);
 }
 
 // Puts n times v into dst from place at; where they do not fit, dst stays as it is.
@@ -89,7 +62,7 @@ pub fn fill_at(dst: &mut [u8], at: usize, n: usize, v: u8)
     if dst.len() - at < n {
         return;
     }
-    fill_within(dst, at, n, v);
+    dst[at..at + n].fill(v);
 }
 
 // Puts v into dst at place at, in two bytes, low byte first; where they do not fit, dst stays as it is.
@@ -100,28 +73,10 @@ pub fn put_word(dst: &mut [u8], at: usize, v: u16)
     copy_at(&pair, dst, at);
 }
 
-// 1 where two bytes differ, else 0.
-fn unlike(a: u8, b: u8) -> u8
-    ensures { (result ≡ unlike_of a b) × (result ≤ 1) }
-{
-    if a == b {
-        return 0;
-    }
-    1
-}
-
-// The two slices have equal bytes, length included. All bytes are compared, with no branch on any: the loop becomes vector code.
+// The two slices have equal bytes, length included.
+#[tactic(auto, using(crate::proofs::Equal::same_pairs))]
 pub fn same(a: &[u8], b: &[u8]) -> bool
     ensures { result ≡ same a.now b.now }
 {
-    if a.len() != b.len() {
-        return false;
-    }
-    let mut hit: u8 = 0;
-    let mut k: usize = 0;
-    while k < a.len() {
-        hit = hit | unlike(a[k], b[k]);
-        k += 1;
-    }
-    hit == 0
+    a == b
 }

@@ -1,11 +1,11 @@
 -- What is encoded, and of what the decoder's answer depends. Assumes nothing.
+use Rattle.std.specs.Prelude.{Ok}
 use mathlib.Core.Path.{◌≡◌, refl}
 use mathlib.Core.List.{List}
 use Prim.Native.Nat.{ℕ}
 use borrow.Author.Tests.{eq-eqb}
 use lib.ListN.{length}
 use Rattle.lists.proofs.Laws.{length_tab}
-use Rattle.outcome.specs.Outcome.{given}
 use Rattle.nibble.specs.Nibble.{encode, encoded, nibble_of, decode}
 
 pub length_encode : (s : List ℕ) → length (encode s) ≡ 343
@@ -17,6 +17,6 @@ unfolding decode
 length_decode n = length_tab _ 256
 
 -- 256 bytes are encoded
-pub encoded_given : (s : List ℕ) → length s ≡ 256 → encoded s ≡ given (encode s)
+pub encoded_given : (s : List ℕ) → length s ≡ 256 → encoded s ≡ Ok (encode s)
 unfolding encoded
 encoded_given s h = rw (eq-eqb _ _ h) refl

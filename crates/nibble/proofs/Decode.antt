@@ -8,22 +8,22 @@ use borrow.Author.Rules.{rules}
 use borrow.Author.Tests.{lt-ltb, le-ltb, eq-eqb, ne_eqb}
 use lib.Dec.{eqb, eqb→eq, ltb, ltb→lt}
 use lib.ListN.{length, set, get_or, drop, get_or-eq_default}
-use Rattle.lists.specs.Fill.{tab, filled, padded, placed}
-use Rattle.lists.proofs.Laws.{Filling, fill_none, fill_again, fill_whole, get_or_tab, length_padded}
+use Rattle.lists.specs.Fill.{tab, filled, placed}
+use Rattle.lists.proofs.Laws.{Filling, fill_none, fill_again, fill_whole, get_or_tab}
 use Rattle.lists.proofs.Put.{Put, put_is_front}
 use Rattle.lists.proofs.Placed.{placed_short, placed_fits}
 use Rattle.lists.proofs.Table.{test_at}
 use Rattle.lists.proofs.Split.{by_lt}
-use Rattle.outcome.specs.declared.Handed.{Handed}
-use Rattle.outcome.specs.declared.Refusal.TheVariants.{DataSum}
-use Rattle.outcome.specs.Outcome.{given, refused_with, accepted_with, Hands}
+use Rattle.std.specs.Prelude.{Ok, Err}
+use Rattle.outcome.specs.declared.Refusal.TheVariants.{DataSum, TrayShort}
+use Rattle.outcome.specs.Outcome.{Outcome, Hands}
 use Rattle.outcome.proofs.Outcome.{hands_refused, hands_short, hands_over_lem}
 use Rattle.nibble.specs.Running.{run_at, looked}
 use Rattle.nibble.specs.Nibble.{writes, write_of, place_in, reads, low, read_of, val_at, values_of, pairs_at, byte_from, decode, decoded}
 use Rattle.nibble.proofs.Callers.{length_decode}
 use Rattle.nibble.proofs.RoundTrip.{read_other}
 use Rattle.nibble.proofs.Ranges.{Ranged, step, next}
-use Rattle.nibble.proofs.Runs.{lengthens, sum_short, sum_long, values_short, values_long}
+use Rattle.nibble.proofs.Runs.{sum_read, values_read}
 
 -- ---- the table
 right : ℕ → ℕ → Bool
@@ -113,38 +113,29 @@ bytes_done v o₀ o₁ o₂ o₃ i j k a b c h =
 
 pub ruleset byted = (bytes_start, turn_0, next_1, turn_1, next_2, turn_2, bytes_done, rules)
 
--- ---- nibbles of any length
-pub short_sum : (t n a : List ℕ) (r : ℕ) → t ≡ reads → a ≡ padded 343 n → r ≡ run_at (looked t) a 342 → r ≡ val_at n 342
-short_sum t n a r e = sum_short t read_of (reads_at t e) 343 342 n a r
+-- ---- the read table in place of the rule
+pub summed : (n : List ℕ) → run_at (looked reads) n 342 ≡ val_at n 342
+summed n = sum_read reads read_of (reads_at reads refl) 342 n
 
-pub long_sum : (t n : List ℕ) (r : ℕ) → t ≡ reads → r ≡ run_at (looked t) n 342 → r ≡ val_at n 342
-long_sum t n r e = sum_long t read_of (reads_at t e) 342 n r
-
-pub short_values : (t n a r : List ℕ) → t ≡ reads → a ≡ padded 343 n → r ≡ tab (run_at (looked t) a) 343 → r ≡ values_of n
+pub valued : (n : List ℕ) → tab (run_at (looked reads) n) 343 ≡ values_of n
 unfolding values_of
-short_values t n a r e = values_short t read_of (reads_at t e) 343 343 n a r
-
-pub long_values : (t n r : List ℕ) → t ≡ reads → r ≡ tab (run_at (looked t) n) 343 → r ≡ values_of n
-unfolding values_of
-long_values t n r e = values_long t read_of (reads_at t e) 343 n r
-
-pub ruleset lengthened = (short_sum, long_sum, short_values, long_values, lengthens, length_padded, rules)
+valued n = values_read reads read_of (reads_at reads refl) 343 n
 
 -- ---- the returns of decode_sector
 pub sum_is : (n v : List ℕ) → v ≡ values_of n → get_or v 342 0 ≡ val_at n 342
 unfolding values_of
 sum_is n v e = rw (e, get_or_tab (val_at n) 343 342 0 (omega arith)) refl
 
-pub bad : (n v o : List ℕ) (h : Handed) → v ≡ values_of n → (get_or v 342 0 ≡ 0 → ⊥) → h ≡ refused_with 9 → Hands (decoded n) o o h
+pub bad : (n v o : List ℕ) (h : Outcome ℕ) → v ≡ values_of n → (get_or v 342 0 ≡ 0 → ⊥) → h ≡ Err DataSum → Hands (decoded n) o o h
 unfolding decoded
 bad n v o h e z q = hands_refused (decoded n) o DataSum (rw (← sum_is n v e, ne_eqb _ _ z) refl) h q
 
 -- where the sum is right the bytes are given
-pub decoded_given : (n : List ℕ) → val_at n 342 ≡ 0 → decoded n ≡ given (decode n)
+pub decoded_given : (n : List ℕ) → val_at n 342 ≡ 0 → decoded n ≡ Ok (decode n)
 unfolding decoded
 decoded_given n z = rw (eq-eqb _ _ z) refl
 
-pub short : (n v o : List ℕ) (h : Handed) → v ≡ values_of n → get_or v 342 0 ≡ 0 → length o < 256 → h ≡ refused_with 12 → Hands (decoded n) o o h
+pub short : (n v o : List ℕ) (h : Outcome ℕ) → v ≡ values_of n → get_or v 342 0 ≡ 0 → length o < 256 → h ≡ Err TrayShort → Hands (decoded n) o o h
 short n v o h e z l q = hands_short (decoded n) o (decode n) (decoded_given n (sym (sum_is n v e) ∙ z)) (rw (length_decode n) l) h q
 
 unpacked : (n v o₀ o : List ℕ) → v ≡ values_of n → o ≡ filled (byte_from v) 256 o₀ → o ≡ decode n ++ drop 256 o₀
@@ -163,8 +154,8 @@ data_is n v o₀ o e room f =
 
 pub ruleset unpacks = (data_short, data_is, sum_is, rules)
 
-pub done : (n v o₀ o : List ℕ) (h : Handed) → v ≡ values_of n → get_or v 342 0 ≡ 0 → 256 ≤ length o₀ → o ≡ filled (byte_from v) 256 o₀
-    → h ≡ accepted_with 256 → Hands (decoded n) o₀ o h
+pub done : (n v o₀ o : List ℕ) (h : Outcome ℕ) → v ≡ values_of n → get_or v 342 0 ≡ 0 → 256 ≤ length o₀ → o ≡ filled (byte_from v) 256 o₀
+    → h ≡ Ok 256 → Hands (decoded n) o₀ o h
 done n v o₀ o h e z room f q =
     let l : length (decode n) ≡ 256 = length_decode n in
     hands_over_lem (decoded n) o₀ o (decode n) (decoded_given n (sym (sum_is n v e) ∙ z)) (rw l room) (rw l (unpacked n v o₀ o e f)) h (rw l q)

@@ -13,20 +13,13 @@ use Rattle.lists.specs.Fill.{tab, before_of}
 use Rattle.lists.proofs.Split.{by_lt}
 use Rattle.lists.proofs.Table.{test_at}
 use Rattle.lists.proofs.Laws.{Filling, fill_none, fill_step, fill_done, fill_whole, get_or_tab}
-use Rattle.nibble.specs.Nibble.{writes, low, write_of, value_of, step_of, LowsOf, StepsOf, nibble_of, encoded, encode}
-use Rattle.outcome.specs.declared.Handed.{Handed}
-use Rattle.outcome.specs.declared.Refusal.TheVariants.{OffSize}
-use Rattle.outcome.specs.Outcome.{refused_with, accepted_with, Hands}
+use Rattle.nibble.specs.Nibble.{low, write_of, value_of, step_of, LowsOf, StepsOf, nibble_of, encoded, encode}
+use Rattle.outcome.specs.declared.Refusal.TheVariants.{OffSize, TrayShort}
+use Rattle.std.specs.Prelude.{Ok, Err}
+use Rattle.outcome.specs.Outcome.{Outcome, Hands}
 use Rattle.outcome.proofs.Outcome.{hands_refused, hands_short, hands_over_lem}
 use Rattle.nibble.proofs.Callers.{length_encode, encoded_given}
 use Rattle.nibble.proofs.RoundTrip.{value_low, value_high, low_0, low_4}
-
--- ---- the table
-pub writes_at : (t : List ℕ) (v : ℕ) → t ≡ writes → get_or t v 0 ≡ write_of v
-unfolding write_of
-writes_at t v e = rw e refl
-
-pub ruleset writings = (writes_at, rules)
 
 -- ---- the low bits of three bytes, swapped at once: a test of all 64 values
 swaps : ℕ → ℕ → Bool
@@ -190,14 +183,14 @@ unfolding nibble_of
 turn s d o₀ o k n i h room w q =
     record { count = omega arith; fills = fill_step i.fills (omega arith) (q ∙ ap write_of (got s d k w h)) }
 
-pub wrong : (s o : List ℕ) (h : Handed) → (length s ≡ 256 → ⊥) → h ≡ refused_with 1 → Hands (encoded s) o o h
+pub wrong : (s o : List ℕ) (h : Outcome ℕ) → (length s ≡ 256 → ⊥) → h ≡ Err OffSize → Hands (encoded s) o o h
 unfolding encoded
 wrong s o h n e = hands_refused (encoded s) o OffSize (rw (ne_eqb _ _ n) refl) h e
 
-pub short : (s o : List ℕ) (h : Handed) → length s ≡ 256 → length o < 343 → h ≡ refused_with 12 → Hands (encoded s) o o h
+pub short : (s o : List ℕ) (h : Outcome ℕ) → length s ≡ 256 → length o < 343 → h ≡ Err TrayShort → Hands (encoded s) o o h
 short s o h n l e = hands_short (encoded s) o (encode s) (encoded_given s n) (rw (length_encode s) l) h e
 
-pub done : (s o₀ o : List ℕ) (k : ℕ) (h : Handed) → length s ≡ 256 → 343 ≤ length o₀ → Outs s o₀ o k → 343 ≤ k → h ≡ accepted_with 343
+pub done : (s o₀ o : List ℕ) (k : ℕ) (h : Outcome ℕ) → length s ≡ 256 → 343 ≤ length o₀ → Outs s o₀ o k → 343 ≤ k → h ≡ Ok 343
     → Hands (encoded s) o₀ o h
 unfolding encode
 done s o₀ o k h n room i m e =

@@ -8,9 +8,9 @@ use borrow.Author.Rules.{rules}
 use borrow.Author.Tests.{lt-ltb, le-ltb}
 use lib.Dec.{eqb, eqb→eq, ltb, ltb→lt}
 use lib.ListN.{length, set, get_or, drop, get_or-eq_default}
-use Rattle.lists.specs.Fill.{tab, filled, padded, placed}
+use Rattle.lists.specs.Fill.{tab, filled, placed}
 use Rattle.lists.specs.Select.{any, filter}
-use Rattle.lists.proofs.Laws.{Filling, fill_none, fill_step, fill_done, length_tab, get_or_tab, length_padded}
+use Rattle.lists.proofs.Laws.{Filling, fill_none, fill_step, fill_done, length_tab, get_or_tab}
 use Rattle.lists.proofs.Put.{put_is_front}
 use Rattle.lists.proofs.Placed.{placed_short, placed_fits}
 use Rattle.lists.proofs.Split.{by_lt}
@@ -19,7 +19,7 @@ use Rattle.nibble.specs.Nibble.{place_in}
 use Rattle.nibble.specs.Running.{run_at, looked}
 use Rattle.nibble.specs.FiveThree.{two_zeros, disk_byte, disk_bytes, read_of53, val_at53, values_of53, top_of, base_of, three_of, bits_of, low_of, byte_of53, source_of, byte_from53, decode53, reads53}
 use Rattle.nibble.proofs.RoundTrip.{place_none}
-use Rattle.nibble.proofs.Runs.{lengthens, sum_short, sum_long, values_short, values_long}
+use Rattle.nibble.proofs.Runs.{sum_read, values_read}
 
 -- ---- the tables
 -- the 32 bytes
@@ -69,33 +69,13 @@ pub length_decode53 : (n : List ℕ) → length (decode53 n) ≡ 256
 unfolding decode53
 length_decode53 n = length_tab _ 256
 
--- ---- nibbles of any length
-pub short_sum : (t n a : List ℕ) (r : ℕ) → t ≡ reads53 → a ≡ padded 411 n → r ≡ run_at (looked t) a 410 → r ≡ val_at53 n 410
-short_sum t n a r e = sum_short t read_of53 (reads_at t e) 411 410 n a r
+-- ---- the read table in place of the rule
+pub summed : (n : List ℕ) → run_at (looked reads53) n 410 ≡ val_at53 n 410
+summed n = sum_read reads53 read_of53 (reads_at reads53 refl) 410 n
 
-pub long_sum : (t n : List ℕ) (r : ℕ) → t ≡ reads53 → r ≡ run_at (looked t) n 410 → r ≡ val_at53 n 410
-long_sum t n r e = sum_long t read_of53 (reads_at t e) 410 n r
-
-pub short_values : (t n a r : List ℕ) → t ≡ reads53 → a ≡ padded 411 n → r ≡ tab (run_at (looked t) a) 411 → r ≡ values_of53 n
+pub valued : (n : List ℕ) → tab (run_at (looked reads53) n) 411 ≡ values_of53 n
 unfolding values_of53
-short_values t n a r e = values_short t read_of53 (reads_at t e) 411 411 n a r
-
-pub long_values : (t n r : List ℕ) → t ≡ reads53 → r ≡ tab (run_at (looked t) n) 411 → r ≡ values_of53 n
-unfolding values_of53
-long_values t n r e = values_long t read_of53 (reads_at t e) 411 n r
-
-pub ruleset lengthened = (short_sum, long_sum, short_values, long_values, lengthens, length_padded, rules)
-
--- ---- the returns of bits_0 and bits_1
-pub first_bits : (a b c : ℕ) → a % 2 * 4 + b % 2 * 2 + c % 2 ≡ three_of 1 a b c
-unfolding three_of
-first_bits a b c = omega arith
-
-pub second_bits : (a b c : ℕ) → a / 2 % 2 * 4 + b / 2 % 2 * 2 + c / 2 % 2 ≡ three_of 2 a b c
-unfolding three_of
-second_bits a b c = refl
-
-pub ruleset bits = (first_bits, second_bits, rules)
+valued n = values_read reads53 read_of53 (reads_at reads53 refl) 411 n
 
 pub bits_lt : (place a b c : ℕ) → three_of place a b c < 8
 unfolding three_of

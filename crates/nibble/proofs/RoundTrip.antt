@@ -1,4 +1,5 @@
 -- Decoding what was encoded gives the sector back. Assumes nothing.
+use Rattle.std.specs.Prelude.{Ok}
 use mathlib.Core.Path.{◌≡◌, refl, sym, ◌∙◌}
 use mathlib.Core.Bool.{Bool}
 use mathlib.Core.List.{List, [], ◌∷◌, ◌++◌}
@@ -14,7 +15,6 @@ use Rattle.lists.proofs.Split.{by_lt, cond_both}
 use Rattle.lists.proofs.Table.{test_at}
 use Rattle.lists.proofs.Bits.{xor_cancel_r}
 use Rattle.nibble.specs.Nibble.{writes, write_of, place_in, read_of, low, value_of, nibble_of, encode, val_at, values_of, byte_from, step_of, decode, decoded}
-use Rattle.outcome.specs.Outcome.{given}
 use Rattle.nibble.proofs.Runs.{run_step}
 
 -- ---- the tables
@@ -128,6 +128,6 @@ module _ (d : List ℕ) (b : Bytes d) where
   encode_is l = tab_suc (nibble_of d) 342 ∙ rw (last_zero l) refl
 
   -- of the two functions' contracts: what the encoder hands over, the decoder accepts, and gives the sector back
-  pub accepted : length d ≡ 256 → decoded (encode d) ≡ given d
+  pub accepted : length d ≡ 256 → decoded (encode d) ≡ Ok d
   unfolding decoded
   accepted l = rw (eq-eqb _ _ (sum l), round_trip l) refl

@@ -5,9 +5,9 @@ use Prim.Native.Nat.{ℕ, zero, suc, ◌+◌, ◌%◌, ◌≤◌, ◌<◌}
 use native.Mathlib.Omega.{arith}
 use borrow.Author.Rules.{rules}
 use lib.Bits.{bit_xor, xor_comm}
-use lib.ListN.{length, set, get_or, replicate}
-use Rattle.lists.specs.Fill.{tab, before_of, padded, placed}
-use Rattle.lists.proofs.Laws.{Filling, fill_none, fill_step, fill_whole, before_next, get_or_padded, placed_zeros, tab_ext}
+use lib.ListN.{length, set, get_or}
+use Rattle.lists.specs.Fill.{tab, before_of, padded}
+use Rattle.lists.proofs.Laws.{Filling, fill_none, fill_step, fill_whole, before_next, get_or_padded, tab_ext}
 use Rattle.lists.proofs.Bits.{xor_assoc}
 use Rattle.nibble.specs.Running.{run_at, looked}
 
@@ -28,13 +28,6 @@ pub run_same : (f g : ℕ → ℕ) → ((b : ℕ) → f b ≡ g b) → (n : List
 unfolding run_at
 run_same f g e n zero = e (get_or n zero 0)
 run_same f g e n (suc k) = rw (run_same f g e n k, e (get_or n (suc k) 0)) refl
-
--- ---- read
-pub looks_up : (t : List ℕ) (b : ℕ) → get_or t b 0 ≡ looked t b
-unfolding looked
-looks_up t b = refl
-
-pub ruleset readings = (looks_up, rules)
 
 -- ---- two chains of the sum: l and r together are the values so far
 four : (l m a b : ℕ) → bit_xor (bit_xor l a) (bit_xor m b) ≡ bit_xor (bit_xor (bit_xor l m) a) b
@@ -94,21 +87,14 @@ vals_are read n v₀ v l k i h = fill_whole (length v₀) i.fills i.count (omega
 pub ruleset valued = (start, turn, vals_are, rules)
 
 -- ---- nibbles of any length
--- what a copy to the front of zeros makes
-pub lengthens : (m : ℕ) (n a z : List ℕ) → length n ≤ m → z ≡ replicate m 0 → a ≡ placed 0 n z → a ≡ padded m n
-lengthens m n a z h y e = e ∙ rw y (placed_zeros m n h)
+-- the values of nibbles with zeros behind them
+pub values_padded : (read : ℕ → ℕ) (m : ℕ) (n : List ℕ) (k : ℕ) → tab (run_at read (padded m n)) k ≡ tab (run_at read n) k
+values_padded read m n k = tab_ext (run_at read (padded m n)) (run_at read n) k (λ j h. run_padded read m n j)
 
+-- a table that says what a rule says
 module _ (t : List ℕ) (read : ℕ → ℕ) (same : (b : ℕ) → looked t b ≡ read b) where
-  -- the sum of nibbles with zeros behind them, ..
-  pub sum_short : (m k : ℕ) (n a : List ℕ) (r : ℕ) → a ≡ padded m n → r ≡ run_at (looked t) a k → r ≡ run_at read n k
-  sum_short m k n a r e q = q ∙ rw e (run_padded (looked t) m n k ∙ run_same (looked t) read same n k)
+  pub sum_read : (k : ℕ) (n : List ℕ) → run_at (looked t) n k ≡ run_at read n k
+  sum_read k n = run_same (looked t) read same n k
 
-  -- .. and of others; the same for the values
-  pub sum_long : (k : ℕ) (n : List ℕ) (r : ℕ) → r ≡ run_at (looked t) n k → r ≡ run_at read n k
-  sum_long k n r q = q ∙ run_same (looked t) read same n k
-
-  pub values_short : (m k : ℕ) (n a r : List ℕ) → a ≡ padded m n → r ≡ tab (run_at (looked t) a) k → r ≡ tab (run_at read n) k
-  values_short m k n a r e q = q ∙ tab_ext (run_at (looked t) a) (run_at read n) k (λ j h. rw e (run_padded (looked t) m n j ∙ run_same (looked t) read same n j))
-
-  pub values_long : (k : ℕ) (n r : List ℕ) → r ≡ tab (run_at (looked t) n) k → r ≡ tab (run_at read n) k
-  values_long k n r q = q ∙ tab_ext (run_at (looked t) n) (run_at read n) k (λ j h. run_same (looked t) read same n j)
+  pub values_read : (k : ℕ) (n : List ℕ) → tab (run_at (looked t) n) k ≡ tab (run_at read n) k
+  values_read k n = tab_ext (run_at (looked t) n) (run_at read n) k (λ j h. run_same (looked t) read same n j)

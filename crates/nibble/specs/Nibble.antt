@@ -4,8 +4,9 @@ use Rattle.std.specs.Prelude.{◌≡◌, cond, List, [], ◌∷◌, ℕ, suc, �
 use Rattle.std.specs.Int.Bits.{bit_xor, bit_and, bit_or}
 use Rattle.lists.specs.Fill.{tab, before_of}
 use Rattle.nibble.specs.Running.{run_at}
+use Rattle.std.specs.Prelude.{Ok}
 use Rattle.outcome.specs.declared.Refusal.TheVariants.{OffSize, DataSum}
-use Rattle.outcome.specs.Outcome.{Outcome, given, ◌>>◌, require}
+use Rattle.outcome.specs.Outcome.{Outcome, ◌>>◌, require}
 
 -- ---- 4-and-4
 -- the byte of the two bytes a and b
@@ -66,7 +67,7 @@ encode d = tab (nibble_of d) 343
 
 -- what the encoder hands over; 1 where there are not 256 bytes
 unfoldable pub encoded : List ℕ → Outcome (List ℕ)
-encoded s = require (eqb (length s) 256) OffSize >> given (encode s)
+encoded s = require (eqb (length s) 256) OffSize >> Ok (encode s)
 
 -- ---- decoding
 -- value k of the nibbles n: the running XOR of what is read. Past the end of n stands 0.
@@ -89,7 +90,7 @@ decode n = tab (byte_from (values_of n)) 256
 
 -- what the decoder hands over; 9 where the XOR with the sum nibble is not zero
 unfoldable pub decoded : List ℕ → Outcome (List ℕ)
-decoded n = require (eqb (val_at n 342) 0) DataSum >> given (decode n)
+decoded n = require (eqb (val_at n 342) 0) DataSum >> Ok (decode n)
 
 -- ---- what the steps of the decoder's code promise each other
 -- value k of the values v with the two bits of each of its three pairs swapped

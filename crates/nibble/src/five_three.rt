@@ -1,47 +1,25 @@
 // The 5-and-3 coding of Apple DOS 3.2 (document 02, Req 12; not in the Rust): 411 nibbles to 256 bytes. It is read, not written.
 ghost use Rattle.std.specs.Prelude.{◌≡◌, ◌+◌, ◌*◌, ◌%◌, ◌≤◌, ◌<◌, length};
-ghost use Rattle.lists.specs.Fill.{filled, padded, placed};
+ghost use Rattle.lists.specs.Fill.{filled, placed};
 ghost use Rattle.nibble.specs.FiveThree.{val_at53, values_of53, three_of, byte_from53, decode53};
 
-use crate::running::{put_values, sum_with};
+use crate::running::{sum_of, values_with};
 use crate::tables::reading_5_and_3;
-use lists::copy_at;
-
-// Nibbles with zeros behind them.
-fn lengthened(nibbles: &[u8]) -> [u8; 411]
-    requires { length nibbles.now ≤ 411 }
-    ensures { result ≡ padded 411 nibbles.now }
-{
-    let mut all = [0u8; 411];
-    copy_at(nibbles, &mut all, 0);
-    all
-}
 
 // The XOR of the first 411 nibbles' values, which is zero where a data field's sum is right. Past the end of the slice zeros are read.
+#[tactic(auto, using(crate::proofs::FiveThree::summed))]
 pub fn data_sum(nibbles: &[u8]) -> u8
     ensures { result ≡ val_at53 nibbles.now 410 }
 {
-    let table = reading_5_and_3();
-    if nibbles.len() < 411 {
-        let all = lengthened(nibbles);
-        return sum_with(&table, &all, 410);
-    }
-    sum_with(&table, nibbles, 410)
+    sum_of::<411>(&reading_5_and_3(), nibbles)
 }
 
 // The values of the first 411 nibbles. Past the end of the slice zeros are read.
+#[tactic(auto, using(crate::proofs::FiveThree::valued))]
 fn values_of(nibbles: &[u8]) -> [u8; 411]
     ensures { result ≡ values_of53 nibbles.now }
 {
-    let table = reading_5_and_3();
-    let mut vals = [0u8; 411];
-    if nibbles.len() < 411 {
-        let all = lengthened(nibbles);
-        put_values(&table, &all, &mut vals);
-        return vals;
-    }
-    put_values(&table, nibbles, &mut vals);
-    vals
+    values_with::<411>(&reading_5_and_3(), nibbles)
 }
 
 // A byte of its high five bits and three low ones.
@@ -53,6 +31,7 @@ fn joined(high: u8, low: u8) -> u8
 }
 
 // The bits 0 of three values, that of a highest.
+#[tactic(auto, unfolding(crate::specs::FiveThree::three_of))]
 fn bits_0(a: u8, b: u8, c: u8) -> u8
     ensures { result ≡ three_of 1 a b c }
 {
@@ -60,6 +39,7 @@ fn bits_0(a: u8, b: u8, c: u8) -> u8
 }
 
 // The bits 1, likewise.
+#[tactic(auto, unfolding(crate::specs::FiveThree::three_of))]
 fn bits_1(a: u8, b: u8, c: u8) -> u8
     ensures { result ≡ three_of 2 a b c }
 {
@@ -104,14 +84,12 @@ fn put_bytes(vals: &[u8; 411], out: &mut [u8])
     requires { 256 ≤ length out.old }
     ensures { out.new ≡ filled (byte_from53 vals.now) 256 out.old }
 {
-    let mut i: usize = 0;
-    while i < 51 {
+    for i in 0..51 {
         out[5 * i] = of_three(vals, i, 0);
         out[5 * i + 1] = of_three(vals, i, 1);
         out[5 * i + 2] = of_three(vals, i, 2);
         out[5 * i + 3] = fourth(vals, i);
         out[5 * i + 4] = fifth(vals, i);
-        i += 1;
     }
     out[255] = joined(vals[409], vals[0] % 8);
 }

@@ -7,14 +7,13 @@ mod tables;
 
 ghost use Rattle.std.specs.Prelude.{◌≡◌, ◌+◌, ◌-◌, ◌*◌, ◌/◌, ◌%◌, ◌≤◌, ◌<◌, length};
 ghost use Rattle.std.specs.Int.Bits.{bit_and};
-ghost use Rattle.lists.specs.Fill.{tab, filled, padded, placed};
+ghost use Rattle.lists.specs.Fill.{tab, filled, placed};
 ghost use Rattle.outcome.specs.Outcome.{Hands};
 ghost use Rattle.nibble.specs.Running.{run_at, looked};
 ghost use Rattle.nibble.specs.Nibble.{of44, four, writes, reads, write_of, read_of, low, val_at, values_of, pairs_at, byte_from, encoded, decode, decoded, LowsOf, StepsOf};
 
-use lists::copy_at;
-use outcome::{DATA_SUM, Handed, OFF_SIZE, TRAY_SHORT, accepted, refused};
-use running::{put_values, sum_with};
+use outcome::Refusal;
+use running::{sum_of, values_with};
 use tables::{reading, writing};
 
 // The byte of two bytes in 4-and-4.
@@ -32,6 +31,7 @@ pub fn build_nibble_byte_4_and_4(v: u8) -> [u8; 2]
 }
 
 // The nibble of a step, from the table that the caller holds.
+#[tactic(auto, unfolding(crate::specs::Nibble::write_of))]
 fn write(table: &[u8; 64], v: u8) -> u8
     requires { (table.now ≡ writes) × (v < 64) }
     ensures { result ≡ write_of v }
@@ -67,14 +67,11 @@ fn lows(src: &[u8]) -> [u8; 86]
     ensures { LowsOf src.now result }
 {
     let mut vals = [0u8; 86];
-    let mut k: usize = 0;
-    while k < 84 {
+    for k in 0..84 {
         vals[k] = low6(src[k], src[k + 86], src[k + 172]);
-        k += 1;
     }
-    while k < 86 {
+    for k in 84..86 {
         vals[k] = low6(src[k], src[k + 86], 0);
-        k += 1;
     }
     vals
 }
@@ -86,77 +83,50 @@ fn steps(src: &[u8], lows: &[u8; 86]) -> [u8; 343]
 {
     let mut diffs = [0u8; 343];
     diffs[0] = lows[0];
-    let mut k: usize = 1;
-    while k < 86 {
+    for k in 1..86 {
         diffs[k] = lows[k] ^ lows[k - 1];
-        k += 1;
     }
-    diffs[k] = lows[k - 1] ^ high6(src[0]);
-    k += 1;
-    while k < 342 {
+    diffs[86] = lows[85] ^ high6(src[0]);
+    for k in 87..342 {
         diffs[k] = high6(src[k - 86] ^ src[k - 87]);
-        k += 1;
     }
     diffs[342] = high6(src[255]);
     diffs
 }
 
 // A sector as 343 nibbles, the sum last (in the Rust build_nibble_sector, whose sum is always 0); refusals 1, 12.
-pub fn encode_sector(src: &[u8], out: &mut [u8]) -> Handed
+pub fn encode_sector(src: &[u8], out: &mut [u8]) -> Result<usize, Refusal>
     ensures { Hands (encoded src.now) out.old out.new result }
 {
     if src.len() != 256 {
-        return refused(OFF_SIZE);
+        return Err(Refusal::OffSize);
     }
     if out.len() < 343 {
-        return refused(TRAY_SHORT);
+        return Err(Refusal::TrayShort);
     }
     let table = writing();
     let vals = lows(src);
     let diffs = steps(src, &vals);
-    let mut k: usize = 0;
-    while k < 343 {
+    for k in 0..343 {
         out[k] = write(&table, diffs[k]);
-        k += 1;
     }
-    accepted(343)
-}
-
-// Nibbles with zeros behind them.
-fn lengthened(nibbles: &[u8]) -> [u8; 343]
-    requires { length nibbles.now ≤ 343 }
-    ensures { result ≡ padded 343 nibbles.now }
-{
-    let mut all = [0u8; 343];
-    copy_at(nibbles, &mut all, 0);
-    all
+    Ok(343)
 }
 
 // The XOR of the first 343 nibbles' values, which is zero where a data field's sum is right. Past the end of the slice zeros are read.
+#[tactic(auto, using(crate::proofs::Decode::summed))]
 pub fn data_sum(nibbles: &[u8]) -> u8
     ensures { result ≡ val_at nibbles.now 342 }
 {
-    let table = reading();
-    if nibbles.len() < 343 {
-        let all = lengthened(nibbles);
-        return sum_with(&table, &all, 342);
-    }
-    sum_with(&table, nibbles, 342)
+    sum_of::<343>(&reading(), nibbles)
 }
 
 // The values of the first 343 nibbles (in the Rust data_field_build_buffer). Past the end of the slice zeros are read.
+#[tactic(auto, using(crate::proofs::Decode::valued))]
 fn values_of(nibbles: &[u8]) -> [u8; 343]
     ensures { result ≡ values_of nibbles.now }
 {
-    let table = reading();
-    let mut vals = [0u8; 343];
-    if nibbles.len() < 343 {
-        let all = lengthened(nibbles);
-        put_values(&table, &all, &mut vals);
-        return vals;
-    }
-    put_values(&table, nibbles, &mut vals);
-    vals
+    values_with::<343>(&reading(), nibbles)
 }
 
 // The low bits of three bytes in each of the first 86 values, the two bits of each pair swapped.
@@ -164,11 +134,9 @@ fn pairs_of(vals: &[u8; 343]) -> [u8; 86]
     ensures { result ≡ tab (pairs_at vals.now) 86 }
 {
     let mut pairs = [0u8; 86];
-    let mut k: usize = 0;
-    while k < 86 {
+    for k in 0..86 {
         let v = vals[k];
         pairs[k] = low6(v, v / 4, v / 16);
-        k += 1;
     }
     pairs
 }
@@ -186,18 +154,14 @@ fn put_bytes(vals: &[u8; 343], out: &mut [u8])
     ensures { out.new ≡ filled (byte_from vals.now) 256 out.old }
 {
     let pairs = pairs_of(vals);
-    let mut i: usize = 0;
-    while i < 86 {
+    for i in 0..86 {
         out[i] = byte(vals[i + 86], pairs[i]);
-        i += 1;
     }
-    while i < 172 {
+    for i in 86..172 {
         out[i] = byte(vals[i + 86], pairs[i - 86] / 4);
-        i += 1;
     }
-    while i < 256 {
+    for i in 172..256 {
         out[i] = byte(vals[i + 86], pairs[i - 172] / 16);
-        i += 1;
     }
 }
 
@@ -215,16 +179,16 @@ pub fn sector_data(nibbles: &[u8], out: &mut [u8]) -> u8
 }
 
 // The 256 bytes of a sector (in the Rust transform_data_field); refusals 9, 12. Past the end of the slice zeros are read.
-pub fn decode_sector(nibbles: &[u8], out: &mut [u8]) -> Handed
+pub fn decode_sector(nibbles: &[u8], out: &mut [u8]) -> Result<usize, Refusal>
     ensures { Hands (decoded nibbles.now) out.old out.new result }
 {
     let vals = values_of(nibbles);
     if vals[342] != 0 {
-        return refused(DATA_SUM);
+        return Err(Refusal::DataSum);
     }
     if out.len() < 256 {
-        return refused(TRAY_SHORT);
+        return Err(Refusal::TrayShort);
     }
     put_bytes(&vals, out);
-    accepted(256)
+    Ok(256)
 }

@@ -25,6 +25,7 @@ const NIBBLE_READ_TABLE_6_AND_2: [u8; 256] = [
 ];
 
 // The write table, to be lent to every step of a call.
+#[tactic(auto, unfolding(crate::specs::Nibble::writes))]
 pub(crate) fn writing() -> [u8; 64]
     ensures { result ≡ writes }
 {
@@ -32,6 +33,7 @@ pub(crate) fn writing() -> [u8; 64]
 }
 
 // The read table, likewise.
+#[tactic(auto, unfolding(crate::specs::Nibble::reads))]
 pub(crate) fn reading() -> [u8; 256]
     ensures { result ≡ reads }
 {
@@ -52,6 +54,7 @@ const NIBBLE_READ_TABLE_5_AND_3: [u8; 256] = [
 ];
 
 // The read table of 5-and-3, to be lent to every step of a call.
+#[tactic(auto, unfolding(crate::specs::FiveThree::reads53))]
 pub(crate) fn reading_5_and_3() -> [u8; 256]
     ensures { result ≡ reads53 }
 {

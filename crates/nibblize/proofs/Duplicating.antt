@@ -8,8 +8,9 @@ use lib.ListN.{length}
 use Rattle.lists.specs.Every
 use Rattle.lists.proofs.Among.{among_between, among_all}
 use Rattle.lists.proofs.Chunks.{every_append, split_every}
-use Rattle.outcome.specs.declared.Handed.{Handed}
-use Rattle.outcome.specs.Outcome.{refused_with}
+use Rattle.std.specs.Prelude.{Err}
+use Rattle.outcome.specs.declared.Refusal.TheVariants.{TrayShort}
+use Rattle.outcome.specs.Outcome.{Outcome}
 use Rattle.fields.specs.declared.Edition.TheVariants.{Sixteen}
 use Rattle.stream.specs.Stream.{Denibblized}
 use Rattle.nibblize.specs.Layouts.{Piece, order_of, Order, Covers, MadeOf}
@@ -18,8 +19,8 @@ use Rattle.nibblize.proofs.Unrolls.{length_laid, unrolls_made}
 use Rattle.nibblize.proofs.Written.{nibblized_made, made_denibblizes, written_made}
 
 -- too little space is the one refusal
-made_refused : (d s : List ℕ) → Flat d → MadeOf d s → (before after : List ℕ) (r : Handed) → Denibblized Sixteen s before after r
-    → length before < 143360 → (r ≡ refused_with 12) × (after ≡ before)
+made_refused : (d s : List ℕ) → Flat d → MadeOf d s → (before after : List ℕ) (r : Outcome ℕ) → Denibblized Sixteen s before after r
+    → length before < 143360 → (r ≡ Err TrayShort) × (after ≡ before)
 made_refused d s (l, b) m before after r h short =
     let t = lt-leb (length d) (length before) (omega arith) in
     (h.answer ∙ rw (unrolls_made d s (l, b) m, t) refl, h.left ∙ rw (unrolls_made d s (l, b) m, t) refl)

@@ -1,4 +1,6 @@
 -- A stream of the sector writings of one disk unrolls to that disk: any order, any gaps free of D5h, repetitions (Req 14). Assumes nothing.
+use Rattle.std.specs.Prelude.{Ok}
+use Rattle.outcome.specs.Outcome.{Outcome}
 use mathlib.Core.Path.{◌≡◌, refl, ap, ◌∙◌}
 use mathlib.Core.Logic.{⊎_elim, inl, inr}
 use mathlib.Core.Bool.{Bool, true, false, cond, ◌&&◌, and-eq-true_iff}
@@ -16,7 +18,6 @@ use Rattle.lists.proofs.Among.{among_cases, among_here, among_there, unlike}
 use Rattle.lists.proofs.Bounds.{bytes_take, bytes_drop}
 use Rattle.lists.proofs.Every.{every_both, map_every}
 use Rattle.disk.specs.Disk.{place, bytes_of}
-use Rattle.outcome.specs.Outcome.{given}
 use Rattle.nibble.specs.Nibble.{encode, decode}
 use Rattle.nibble.proofs.RoundTrip.{round_trip, sum}
 use Rattle.fields.specs.declared.Edition.TheVariants.{Sixteen}
@@ -99,7 +100,7 @@ module _ (v : ℕ) (d : List ℕ) where
 
     -- fuel for each piece is enough
     scan : (fuel : ℕ) (ps : List Piece) (last : List ℕ) → length ps ≤ fuel → Every Sound ps → Free last
-        → fields Sixteen fuel (laid v d ps last) ≡ given (map field_of ps)
+        → fields Sixteen fuel (laid v d ps last) ≡ Ok (map field_of ps)
     unfolding laid field_of writing_of
     scan fuel [] last h s e = fields_none Sixteen fuel last e
     scan zero (x ∷ ps) last h s e = absurd (omega arith)
@@ -118,13 +119,13 @@ module _ (v : ℕ) (d : List ℕ) where
         (eq-eqb _ 0 (sum _ z.1 z.0)) (sums (field_of x ∷ seen) ss)
 
     -- a field that fits a track and a DOS sector holds that sector
-    fits : (t s k : ℕ) → t < 35 → s < 16 → k / 16 ≡ t → interleave (k % 16) ≡ s → given (decode (encode (held d k))) ≡ given (sector t s)
+    fits : (t s k : ℕ) → t < 35 → s < 16 → k / 16 ≡ t → interleave (k % 16) ≡ s → ◌≡◌ {A = Outcome (List ℕ)} (Ok (decode (encode (held d k)))) (Ok (sector t s))
     unfolding held
-    fits t s k ht hs et es = let z = sized_sector t s ht hs in rw (et, es) (ap given (round_trip (sector t s) z.1 z.0))
+    fits t s k ht hs et es = let z = sized_sector t s ht hs in rw (et, es) (ap Ok (round_trip (sector t s) z.1 z.0))
 
     -- one is found where a number that fits is among the pieces
     found : (t s j : ℕ) → t < 35 → s < 16 → j / 16 ≡ t → interleave (j % 16) ≡ s
-        → (ps : List Piece) → among j (order_of ps) ≡ true → bytes_at Sixteen t s (map field_of ps) ≡ given (sector t s)
+        → (ps : List Piece) → among j (order_of ps) ≡ true → bytes_at Sixteen t s (map field_of ps) ≡ Ok (sector t s)
     unfolding bytes_at field_of dos_sector data_of among
     found t s j ht hs et es [] m = absurd (unlike refl m)
     found t s j ht hs et es (x ∷ ps) m =
@@ -137,7 +138,7 @@ module _ (v : ℕ) (d : List ℕ) where
 
     -- the 256 bytes number k of the disk, from the field of their track and DOS sector
     found_at : (ps : List Piece) → Covers (order_of ps)
-        → (k : ℕ) → k < 560 → bytes_at Sixteen (k / 16) (k % 16) (map field_of ps) ≡ given (take 256 (drop (256 * k) d))
+        → (k : ℕ) → k < 560 → bytes_at Sixteen (k / 16) (k % 16) (map field_of ps) ≡ Ok (take 256 (drop (256 * k) d))
     unfolding bytes_of
     found_at ps c k h =
         let w : ℕ = way_back (k % 16) in
@@ -152,14 +153,14 @@ module _ (v : ℕ) (d : List ℕ) where
 
     -- every sector is among the pieces: the stream unrolls to d
     unrolls_laid : (ps : List Piece) (last : List ℕ) → Every Sound ps → Free last → Covers (order_of ps)
-        → image Sixteen (laid v d ps last) ≡ given d
+        → image Sixteen (laid v d ps last) ≡ Ok d
     unfolding image per_track
     unrolls_laid ps last s e c =
         rw (scan (length (laid v d ps last)) ps last (omega (arith, length_laid ps last, few ps)) s e, one_volume ps s, sums [] s)
         (each_joins (λ k. bytes_at Sixteen (k / 16) (k % 16) (map field_of ps)) (λ k. k) 560 d l (found_at ps c))
 
 -- a stream so made unrolls to the disk
-pub unrolls_made : (d s : List ℕ) → Flat d → MadeOf d s → image Sixteen s ≡ given d
+pub unrolls_made : (d s : List ℕ) → Flat d → MadeOf d s → image Sixteen s ≡ Ok d
 unrolls_made d s (l, b) (y, g, c, e) =
     ap (image Sixteen) e
     ∙ unrolls_laid y.volume d g.byte l b y.pieces y.behind (every_both g.gaps (map_every (λ (x : Piece). x.number) y.pieces c.numbers)) g.last c
@@ -193,7 +194,7 @@ turned_has k (x ∷ ps) (inr m) = among_there k x.key (order_of (map turned ps))
 
 -- every sector is among the pieces: the stream unrolls to d
 pub unrolls : (v : ℕ) (d : List ℕ) → v < 256 → length d ≡ 143360 → Bytes d → (ps : List Keyed) (last : List ℕ) → KeyedSound ps → Free last
-    → ((k : ℕ) → k < 560 → Has k ps) → image Sixteen (keyed_laid v d ps last) ≡ given d
+    → ((k : ℕ) → k < 560 → Has k ps) → image Sixteen (keyed_laid v d ps last) ≡ Ok d
 unrolls v d hv l b ps last s e all =
     rw (turned_laid v d ps last)
     (unrolls_laid v d hv l b (map turned ps) last (turned_sound ps s) e (record { each = λ k h. turned_has k ps (all k h); numbers = turned_numbers ps s }))

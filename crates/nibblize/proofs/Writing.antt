@@ -13,9 +13,9 @@ use lib.Seq.{length-take-le}
 use Rattle.lists.specs.Fill.{put, placed, cats}
 use Rattle.lists.proofs.Put.{Put, put_is_front, put_more, put_part, put_is, put_front, placed_put}
 use Rattle.lists.proofs.Blocks.{Blocks, blocks_none, blocks_step, blocks_done, length_cats}
-use Rattle.outcome.specs.declared.Handed.{Handed}
-use Rattle.outcome.specs.declared.Refusal.TheVariants.{OffSize}
-use Rattle.outcome.specs.Outcome.{refused_with, accepted_with, Hands}
+use Rattle.outcome.specs.declared.Refusal.TheVariants.{OffSize, TrayShort}
+use Rattle.std.specs.Prelude.{Ok, Err}
+use Rattle.outcome.specs.Outcome.{Outcome, Hands}
 use Rattle.outcome.proofs.Outcome.{hands_refused, hands_short, hands_over_lem, hands_left}
 use Rattle.disk.specs.Disk.{byte_of, bytes_of, sized}
 use Rattle.disk.specs.Vtoc.{vtoc}
@@ -46,7 +46,7 @@ whole : (v t p : ℕ) (s : List ℕ)
 unfolding sector_writing sector_spaced data_writing
 whole v t p s = six (replicate 48 255) (address_writing v t p) (replicate 5 255) (0xD5 ∷ 0xAA ∷ 0xAD ∷ []) (encode s) (0xDE ∷ 0xAA ∷ 0xEB ∷ [])
 
-pub sector_put : (s : List ℕ) (at v t p : ℕ) (o₀ : List ℕ) {r : Handed} {o₁ o₂ o₃ o₄ q o₆ : List ℕ}
+pub sector_put : (s : List ℕ) (at v t p : ℕ) (o₀ : List ℕ) {r : Outcome ℕ} {o₁ o₂ o₃ o₄ q o₆ : List ℕ}
     → length s ≡ 256 → at + 416 ≤ length o₀
     → o₁ ≡ placed at (replicate 48 255) o₀
     → o₂ ≡ placed (at + 48) (address_writing v t p) o₁
@@ -117,7 +117,7 @@ writing_done v d o₀ o k w h = blocks_done 560 w.blocks w.count h
 pub ruleset writes = (writing_start, writing_turn, writing_room, writing_done, rules)
 
 -- ---- the returns of nibblize
-pub wrong : (d o : List ℕ) (h : Handed) → (length d ≡ 143360 → ⊥) → h ≡ refused_with 1 → Hands (nibblized d) o o h
+pub wrong : (d o : List ℕ) (h : Outcome ℕ) → (length d ≡ 143360 → ⊥) → h ≡ Err OffSize → Hands (nibblized d) o o h
 unfolding nibblized sized
 wrong d o h n e = hands_refused (nibblized d) o OffSize (rw (ne_eqb _ _ n) refl) h e
 
@@ -125,13 +125,13 @@ wrong d o h n e = hands_refused (nibblized d) o OffSize (rw (ne_eqb _ _ n) refl)
 given_length : (v : ℕ) (d : List ℕ) → length (cats (block v d) 560) ≡ 232960
 given_length v d = length_cats (block v d) 416 (length_block v d) 560
 
-pub short : (d o : List ℕ) (h : Handed) → length d ≡ 143360 → length o < 232960 → h ≡ refused_with 12 → Hands (nibblized d) o o h
+pub short : (d o : List ℕ) (h : Outcome ℕ) → length d ≡ 143360 → length o < 232960 → h ≡ Err TrayShort → Hands (nibblized d) o o h
 short d o h n l e =
     let v : ℕ = byte_of 16 d vtoc 6 in
     hands_short (nibblized d) o (cats (block v d) 560) (nibblized_is d n) (rw (given_length v d) l) h e
 
-pub done : (d o₀ o : List ℕ) (v : ℕ) (h : Handed) → length d ≡ 143360 → 232960 ≤ length o₀ → v ≡ byte_of 16 d vtoc 6
-    → o ≡ put 0 (cats (block v d) 560) o₀ → h ≡ accepted_with 232960 → Hands (nibblized d) o₀ o h
+pub done : (d o₀ o : List ℕ) (v : ℕ) (h : Outcome ℕ) → length d ≡ 143360 → 232960 ≤ length o₀ → v ≡ byte_of 16 d vtoc 6
+    → o ≡ put 0 (cats (block v d) 560) o₀ → h ≡ Ok 232960 → Hands (nibblized d) o₀ o h
 done d o₀ o v h n room ev e q =
     let l : length (cats (block v d) 560) ≡ 232960 = given_length v d in
     let f : o ≡ cats (block v d) 560 ++ drop (length (cats (block v d) 560)) o₀ = put_front (put_is e (omega arith)) in

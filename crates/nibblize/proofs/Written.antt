@@ -14,9 +14,9 @@ use Rattle.lists.proofs.Blocks.{length_cats, cats_front}
 use Rattle.lists.proofs.Chunks.{every_tab}
 use Rattle.disk.specs.Vtoc.{vtoc}
 use Rattle.disk.specs.Disk.{byte_of, sized}
-use Rattle.outcome.specs.declared.Handed.{Handed}
+use Rattle.std.specs.Prelude.{Ok}
 use Rattle.outcome.specs.declared.Refusal.TheVariants.{OffSize}
-use Rattle.outcome.specs.Outcome.{given, answer_of, accepted_with, Hands}
+use Rattle.outcome.specs.Outcome.{Outcome, answer_of, Hands}
 use Rattle.outcome.proofs.Outcome.{met, handed_fits, hands_given, hands_left}
 use Rattle.fields.specs.declared.Edition.TheVariants.{Sixteen}
 use Rattle.fields.proofs.Marks.{free_nil}
@@ -60,12 +60,12 @@ length_block v d k = rw (length-append (replicate 48 0xFF) (sector_spaced (repli
 
 -- ---- the writer
 -- a disk of the right size is written
-pub nibblized_is : (d : List ℕ) → length d ≡ 143360 → nibblized d ≡ given (cats (block (byte_of 16 d vtoc 6) d) 560)
+pub nibblized_is : (d : List ℕ) → length d ≡ 143360 → nibblized d ≡ Ok (cats (block (byte_of 16 d vtoc 6) d) 560)
 unfolding nibblized sized
 nibblized_is d l = rw (eq-eqb (length d) 143360 l) refl
 
 -- 560 * 416
-pub length_nibblized : (d s : List ℕ) → length d ≡ 143360 → nibblized d ≡ given s → length s ≡ 232960
+pub length_nibblized : (d s : List ℕ) → length d ≡ 143360 → nibblized d ≡ Ok s → length s ≡ 232960
 length_nibblized d s l e =
     let v : ℕ = byte_of 16 d vtoc 6 in
     let q : cats (block v d) 560 ≡ s = cc (nibblized_is d l) in
@@ -76,12 +76,12 @@ covers : Covers (order_of (row (λ k. k) 560))
 covers = rw row_numbers (record { each = among_tab (λ k. k) 560; numbers = every_tab (λ (k : ℕ). k < 560) (λ k. k) 560 (λ k h. h) })
 
 -- the size was tested
-nibblized_sized : (d s : List ℕ) → nibblized d ≡ given s → length d ≡ 143360
+nibblized_sized : (d s : List ℕ) → nibblized d ≡ Ok s → length d ≡ 143360
 unfolding nibblized sized
 nibblized_sized d s e = eqb-true (length d) 143360 (met (eqb (length d) 143360) OffSize _ e).0
 
 -- what is written is made of the disk's sector writings ..
-pub nibblized_made : (d s : List ℕ) → Bytes d → nibblized d ≡ given s → MadeOf d s
+pub nibblized_made : (d s : List ℕ) → Bytes d → nibblized d ≡ Ok s → MadeOf d s
 nibblized_made d s b e =
     let v : ℕ = byte_of 16 d vtoc 6 in
     let ps : List Piece = row (λ k. k) 560 in
@@ -89,29 +89,31 @@ nibblized_made d s b e =
     (record { volume = v; pieces = ps; behind = [] }, record { byte = b _; gaps = row_free (λ k. k) 560; last = free_nil }, covers, q)
 
 -- .. so it unrolls to the disk again
-pub nibblized_unrolls : (d s : List ℕ) → length d ≡ 143360 → Bytes d → nibblized d ≡ given s → image Sixteen s ≡ given d
+pub nibblized_unrolls : (d s : List ℕ) → length d ≡ 143360 → Bytes d → nibblized d ≡ Ok s → image Sixteen s ≡ Ok d
 nibblized_unrolls d s l b e = unrolls_made d s (l, b) (nibblized_made d s b e)
 
 -- ---- the same of the calls
 -- from a stream so made, into enough space, denibblize hands the disk over
-pub made_denibblizes : (d s : List ℕ) → Flat d → MadeOf d s → (before after : List ℕ) (r : Handed) → Denibblized Sixteen s before after r
-    → 143360 ≤ length before → (r ≡ accepted_with 143360) × (after ≡ d ++ drop 143360 before)
+pub made_denibblizes : (d s : List ℕ) → Flat d → MadeOf d s → (before after : List ℕ) (r : Outcome ℕ) → Denibblized Sixteen s before after r
+    → 143360 ≤ length before → (r ≡ Ok 143360) × (after ≡ d ++ drop 143360 before)
 made_denibblizes d s (l, b) m before after r h room =
-    let i : image Sixteen s ≡ given d = unrolls_made d s (l, b) m in
-    (h.answer ∙ ap answer_of (handed_fits (image Sixteen s) before i (omega arith)) ∙ ap accepted_with l, hands_left d h i (omega arith) ∙ ap (λ (n : ℕ). d ++ drop n before) l)
+    let i : image Sixteen s ≡ Ok d = unrolls_made d s (l, b) m in
+    (h.answer ∙ ap answer_of (handed_fits (image Sixteen s) before i (omega arith)) ∙ ap Ok l, hands_left d h i (omega arith) ∙ ap (λ (n : ℕ). d ++ drop n before) l)
 
 -- what a call of nibblize accepted and wrote is so made
-pub written_made : (d before after : List ℕ) (r : Handed) → Bytes d → Hands (nibblized d) before after r → r.refusal ≡ 0 → MadeOf d (take r.length after)
-written_made d before after r b h z =
-    let g = hands_given h z in
+pub written_made : (d before after : List ℕ) (n : ℕ) → Bytes d → Hands (nibblized d) before after (Ok n) → MadeOf d (take n after)
+written_made d before after n b h =
+    let g = hands_given n h refl in
     let w : List ℕ = g.0 in
-    let n : r.length ≡ length w = ap (λ (x : Handed). x.length) (h.answer ∙ ap answer_of (handed_fits (nibblized d) before g.1 g.2)) in
-    let t : take r.length after ≡ w = ap (λ (m : ℕ). take m after) n ∙ ap (take (length w)) g.3 ∙ take_at w (drop (length w) before) (length w) refl in
+    let q : ◌≡◌ {A = Outcome ℕ} (Ok n) (Ok (length w)) = h.answer ∙ ap answer_of (handed_fits (nibblized d) before g.1 g.2) in
+    let m : n ≡ length w = cc in
+    let t : take n after ≡ w = ap (λ (k : ℕ). take k after) m ∙ ap (take (length w)) g.3 ∙ take_at w (drop (length w) before) (length w) refl in
     rw t (nibblized_made d w b g.1)
 
 -- what nibblize accepts and writes, denibblize accepts, and gives the disk back
-pub written_denibblizes : (d before after : List ℕ) (r : Handed) → Bytes d → Hands (nibblized d) before after r → r.refusal ≡ 0
-    → (out image-out : List ℕ) (q : Handed) → 143360 ≤ length out → Hands (image Sixteen (take r.length after)) out image-out q
-    → (q ≡ accepted_with 143360) × (image-out ≡ d ++ drop 143360 out)
-written_denibblizes d before after r b h z out image-out q room k =
-    made_denibblizes d (take r.length after) (nibblized_sized d (hands_given h z).0 (hands_given h z).1, b) (written_made d before after r b h z) out image-out q k room
+pub written_denibblizes : (d before after : List ℕ) (n : ℕ) → Bytes d → Hands (nibblized d) before after (Ok n)
+    → (out image-out : List ℕ) (q : Outcome ℕ) → 143360 ≤ length out → Hands (image Sixteen (take n after)) out image-out q
+    → (q ≡ Ok 143360) × (image-out ≡ d ++ drop 143360 out)
+written_denibblizes d before after n b h out image-out q room k =
+    let g = hands_given n h refl in
+    made_denibblizes d (take n after) (nibblized_sized d g.0 g.1, b) (written_made d before after n b h) out image-out q k room

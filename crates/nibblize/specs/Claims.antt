@@ -2,8 +2,9 @@
 -- `Denibblized` and `Hands` of `nibblized` are the promises of `stream::denibblize` and `nibblize::nibblize`, word for word.
 use Rattle.std.specs.Prelude.{◌≡◌, List, ◌∷◌, ◌++◌, ℕ, ◌+◌, ◌<◌, ◌≤◌, length, take, drop}
 use Rattle.lists.specs.Fill.{Bytes}
-use Rattle.outcome.specs.declared.Handed.{Handed}
-use Rattle.outcome.specs.Outcome.{given, refused_with, accepted_with, Hands}
+use Rattle.std.specs.Prelude.{Ok, Err}
+use Rattle.outcome.specs.declared.Refusal.TheVariants.{TrayShort}
+use Rattle.outcome.specs.Outcome.{Outcome, Hands}
 use Rattle.fields.specs.declared.Edition.TheVariants.{Sixteen}
 use Rattle.stream.specs.Stream.{image, Denibblized}
 use Rattle.nibblize.specs.Nibblize.{nibblized}
@@ -16,15 +17,15 @@ Flat d = (length d ≡ 143360) × Bytes d
 -- Req 14
 pub record Duplicating : Type 0 where
   -- a stream so made unrolls to that disk
-  pub image_is : (d s : List ℕ) → Flat d → MadeOf d s → image Sixteen s ≡ given d
-  -- of the call: into enough lent space denibblize answers 0 and leaves that disk, and what stood behind it; into less it answers 12 and leaves all as it was
-  pub denibblizes : (d s : List ℕ) → Flat d → MadeOf d s → (before after : List ℕ) (r : Handed) → Denibblized Sixteen s before after r
-      → 143360 ≤ length before → (r ≡ accepted_with 143360) × (after ≡ d ++ drop 143360 before)
-  pub refuses : (d s : List ℕ) → Flat d → MadeOf d s → (before after : List ℕ) (r : Handed) → Denibblized Sixteen s before after r
-      → length before < 143360 → (r ≡ refused_with 12) × (after ≡ before)
+  pub image_is : (d s : List ℕ) → Flat d → MadeOf d s → image Sixteen s ≡ Ok d
+  -- of the call: into enough lent space denibblize leaves that disk, and what stood behind it; into less it answers 12 and leaves all as it was
+  pub denibblizes : (d s : List ℕ) → Flat d → MadeOf d s → (before after : List ℕ) (r : Outcome ℕ) → Denibblized Sixteen s before after r
+      → 143360 ≤ length before → (r ≡ Ok 143360) × (after ≡ d ++ drop 143360 before)
+  pub refuses : (d s : List ℕ) → Flat d → MadeOf d s → (before after : List ℕ) (r : Outcome ℕ) → Denibblized Sixteen s before after r
+      → length before < 143360 → (r ≡ Err TrayShort) × (after ≡ before)
   -- the nibble writer's own stream is one of these, and so is what a call of nibblize wrote
-  pub own : (d s : List ℕ) → Bytes d → nibblized d ≡ given s → MadeOf d s
-  pub written : (d before after : List ℕ) (r : Handed) → Bytes d → Hands (nibblized d) before after r → r.refusal ≡ 0 → MadeOf d (take r.length after)
+  pub own : (d s : List ℕ) → Bytes d → nibblized d ≡ Ok s → MadeOf d s
+  pub written : (d before after : List ℕ) (n : ℕ) → Bytes d → Hands (nibblized d) before after (Ok n) → MadeOf d (take n after)
   -- for each order of the 560 and all gaps free of D5h there is such a stream; its length is the sum of its parts
   pub orders : (d : List ℕ) (y : Layout) → Spaced y → Order (order_of y.pieces) → MadeOf d (stream_of d y)
   pub lengths : (d : List ℕ) (y : Layout) → length (stream_of d y) ≡ length_of_parts y.pieces + length y.behind

@@ -2,7 +2,8 @@
 use Rattle.std.specs.Prelude.{List, [], ◌∷◌, ◌++◌, ℕ, ◌/◌, ◌%◌, replicate}
 use Rattle.std.specs.Int.Bits.{bit_xor}
 use Rattle.lists.specs.Fill.{cats}
-use Rattle.outcome.specs.Outcome.{Outcome, given, ◌>>◌}
+use Rattle.std.specs.Prelude.{Ok}
+use Rattle.outcome.specs.Outcome.{Outcome, ◌>>◌}
 use Rattle.disk.specs.Disk.{place, byte_of, bytes_of, sized}
 use Rattle.disk.specs.Vtoc.{vtoc}
 use Rattle.nibble.specs.Nibble.{four, encode}
@@ -34,4 +35,4 @@ block v d k = replicate 48 0xFF ++ sector_writing v (k / 16) (k % 16) (held d k)
 
 -- a flat disk as nibbles; the volume is the VTOC's
 unfoldable pub nibblized : List ℕ → Outcome (List ℕ)
-nibblized d = sized 16 d >> given (cats (block (byte_of 16 d vtoc 6) d) 560)
+nibblized d = sized 16 d >> Ok (cats (block (byte_of 16 d vtoc 6) d) 560)

@@ -11,7 +11,7 @@ use disk::{Place, Sector, Track, byte_of};
 use fields::dos_sectors;
 use lists::{copy_at, fill_at};
 use nibble::{build_nibble_byte_4_and_4, encode_sector};
-use outcome::{Handed, OFF_SIZE, TRAY_SHORT, accepted, refused};
+use outcome::Refusal;
 
 // Puts an address in from place at; where it does not fit, out stays as it is.
 fn put_address(out: &mut [u8], at: usize, volume: u8, track: u8, sector: u8)
@@ -38,7 +38,7 @@ fn put_sector(src: &[u8], out: &mut [u8], at: usize, volume: u8, track: u8, sect
     let head = [0xD5, 0xAA, 0xAD];
     copy_at(&head, out, at + 67);
     let a = at + 70;
-    encode_sector(src, &mut out[a..]);
+    let _ = encode_sector(src, &mut out[a..]);
     let tail = [0xDE, 0xAA, 0xEB];
     copy_at(&tail, out, at + 413);
 }
@@ -70,22 +70,20 @@ fn put_blocks(disk: &[u8], out: &mut [u8], volume: u8)
     ensures { out.new ≡ put 0 (cats (block volume disk.now) 560) out.old }
 {
     let order = dos_sectors();
-    let mut k: usize = 0;
-    while k < 560 {
+    for k in 0..560 {
         put_block(&order, disk, out, k, volume);
-        k += 1;
     }
 }
 
 // A flat disk as nibbles, 232,960 bytes (not in the Rust); refusals 1, 12. The volume is the VTOC's.
-pub fn nibblize(disk: &[u8], out: &mut [u8]) -> Handed
+pub fn nibblize(disk: &[u8], out: &mut [u8]) -> Result<usize, Refusal>
     ensures { Hands (nibblized disk.now) out.old out.new result }
 {
     if disk.len() != 143360 {
-        return refused(OFF_SIZE);
+        return Err(Refusal::OffSize);
     }
     if out.len() < 232960 {
-        return refused(TRAY_SHORT);
+        return Err(Refusal::TrayShort);
     }
     let table = Place {
         track: Track(17),
@@ -93,5 +91,5 @@ pub fn nibblize(disk: &[u8], out: &mut [u8]) -> Handed
     };
     let volume = byte_of(disk, 16, table, 6);
     put_blocks(disk, out, volume);
-    accepted(232960)
+    Ok(232960)
 }

@@ -8,13 +8,21 @@ use catalog::{
 };
 use disk::{Place, link_of, on_disk, sectors_of};
 use lists::byte_at;
-use outcome::{BAD_LETTER, OFF_DISC, RING};
+use outcome::Refusal;
 use screen::names::shown_name;
-use screen::sums::{more, next, poke};
+use screen::seen::Seen;
 use screen::{
-    STDERR_FILENO, STDOUT_FILENO, count, json, names, place, place_column, say, sector_number,
-    tell, text_number, text_place, vtoc,
+    STDERR_FILENO, STDOUT_FILENO, count, json, names, place, place_column, say, tell, text_number,
+    text_place, vtoc,
 };
+
+// What links are followed for: to show what they lead to, as lines or as objects of JSON, or to tell the place where a refusal is met.
+#[derive(Clone, Copy, Debug, PartialEq, Eq)]
+pub enum Aim {
+    Lines,
+    Objects,
+    Place(Refusal),
+}
 
 // Where a page or list ends its chain: its link, if that holds something.
 pub fn last_link(disk: &[u8], per: u8, p: Place) {
@@ -32,11 +40,8 @@ pub fn is_live(disk: &[u8], x: usize) -> bool {
 }
 
 fn live_entries(disk: &[u8], per: u8, p: Place) -> u64 {
-    let mut n: u64 = 0;
-    for i in 0..7u8 {
-        n = more(n, is_live(disk, entry_start(per, p, i)));
-    }
-    n
+    let live = (0..7u8).filter(|i| is_live(disk, entry_start(per, p, *i)));
+    live.count() as u64
 }
 
 fn page_line(disk: &[u8], per: u8, p: Place) {
@@ -66,7 +71,7 @@ pub fn link_object(disk: &[u8], per: u8, p: Place) {
 
 // The same as JSON. k pages stand before it.
 fn page_object(disk: &[u8], per: u8, p: Place, k: u16) {
-    json::element(k as u64);
+    json::element(u64::from(k));
     json::place(p);
     text_number(
         STDOUT_FILENO,
@@ -76,45 +81,34 @@ fn page_object(disk: &[u8], per: u8, p: Place, k: u16) {
     link_object(disk, per, p);
 }
 
-// 80h stands in the name of the entry from x on.
-fn holds_80h(disk: &[u8], x: usize) -> bool {
-    let name = lists::part(disk, x, 33);
-    for k in 3..33u8 {
-        if byte_at(name, k as usize) == 128 {
-            return true;
-        }
-    }
-    false
+// The entry from x on is in use, and 80h stands in its name.
+fn is_bad(disk: &[u8], x: usize) -> bool {
+    is_live(disk, x) & raw_name(disk, x).contains(&0x80)
 }
 
 // The first live entry of a page whose name holds 80h.
 fn bad_entry(disk: &[u8], per: u8, p: Place) -> u8 {
-    for i in 0..7u8 {
-        let x = entry_start(per, p, i);
-        if is_live(disk, x) & holds_80h(disk, x) {
-            return i;
-        }
-    }
-    6
+    let bad = (0..7u8).find(|i| is_bad(disk, entry_start(per, p, *i)));
+    bad.unwrap_or(6)
 }
 
-// Why a page cannot be read: 3, 4, 6, or 0.
-fn page_refusal(disk: &[u8], per: u8, p: Place, seen: &[u8]) -> u8 {
+// Whether a page can be read.
+fn readable(disk: &[u8], per: u8, p: Place, seen: &Seen) -> Result<(), Refusal> {
     if !on_disk(per, p) {
-        return OFF_DISC;
+        return Err(Refusal::OffDisc);
     }
-    if byte_at(seen, sector_number(per, p)) == 1 {
-        return RING;
+    if seen.has(per, p) {
+        return Err(Refusal::Ring);
     }
-    if plain_page(disk, per, p) {
-        return 0;
+    if !plain_page(disk, per, p) {
+        return Err(Refusal::BadLetter);
     }
-    BAD_LETTER
+    Ok(())
 }
 
 // What a link leads to, where that cannot be followed.
-pub fn bad_link(refusal: u8, what: &[u8], to: Place) {
-    if refusal == RING {
+pub fn bad_link(why: Refusal, what: &[u8], to: Place) {
+    if why == Refusal::Ring {
         tell(b" leads back to ");
         tell(what);
         place(STDERR_FILENO, to);
@@ -124,11 +118,11 @@ pub fn bad_link(refusal: u8, what: &[u8], to: Place) {
 }
 
 // The place where the walk along the pages stops. `from` is the VTOC if no page was read.
-fn page_stop(disk: &[u8], per: u8, refusal: u8, pages: u16, from: Place, to: Place) {
-    if refusal == BAD_LETTER {
+fn page_stop(disk: &[u8], per: u8, why: Refusal, pages: u16, from: Place, to: Place) {
+    if why == Refusal::BadLetter {
         let i = bad_entry(disk, per, to);
         text_place(STDERR_FILENO, b"\n  catalog page ", to);
-        text_number(STDERR_FILENO, b", entry ", next(i as u64));
+        text_number(STDERR_FILENO, b", entry ", u64::from(i).saturating_add(1));
         tell(b": ");
         let e = parse_file_entry(disk, entry_start(per, to, i));
         shown_name(STDERR_FILENO, e.name);
@@ -139,80 +133,59 @@ fn page_stop(disk: &[u8], per: u8, refusal: u8, pages: u16, from: Place, to: Pla
     } else {
         text_place(STDERR_FILENO, b"\n  catalog page ", from);
     }
-    bad_link(refusal, b"page ", to);
+    bad_link(why, b"page ", to);
 }
 
-fn show_page(disk: &[u8], per: u8, object: bool, pages: u16, p: Place) {
-    if object {
-        page_object(disk, per, p, pages);
-        return;
-    }
-    page_line(disk, per, p);
-}
-
-// Shows a page, or tells the place of the refusal `why`, where it is met here.
+// Shows a page that can be read, or tells the place of the refusal that is met here, as the aim has it.
 fn at_page(
     disk: &[u8],
     per: u8,
-    why: u8,
-    object: bool,
-    refusal: u8,
+    aim: Aim,
+    read: Result<(), Refusal>,
     pages: u16,
     from: Place,
     to: Place,
 ) {
-    if why == 0 {
-        if refusal == 0 {
-            show_page(disk, per, object, pages, to);
-        }
-        return;
-    }
-    if why == refusal {
-        page_stop(disk, per, refusal, pages, from, to);
+    match (aim, read) {
+        (Aim::Lines, Ok(())) => page_line(disk, per, to),
+        (Aim::Objects, Ok(())) => page_object(disk, per, to, pages),
+        (Aim::Place(wanted), Err(why)) if wanted == why => {
+            page_stop(disk, per, why, pages, from, to);
+        },
+        _ => {},
     }
 }
 
-// Follows the pages: the first refusal met, or 0. `seen` is all zeros.
-fn follow_seen(disk: &[u8], per: u8, why: u8, object: bool, seen: &mut [u8]) -> u8 {
+// Follows the pages of a disk that has a VTOC, up to the first refusal.
+pub fn follow_pages(disk: &[u8], aim: Aim) -> Result<(), Refusal> {
+    let per = sectors_of(disk);
+    let mut seen = Seen::none();
     let mut from = vtoc();
     let mut p = first_page(disk, per);
     for k in 0..561u16 {
-        let refusal = page_refusal(disk, per, p, seen);
-        at_page(disk, per, why, object, refusal, k, from, p);
-        if refusal != 0 {
-            return refusal;
-        }
+        let read = readable(disk, per, p, &seen);
+        at_page(disk, per, aim, read, k, from, p);
+        read?;
         if last_page(disk, per, p) {
-            return 0;
+            return Ok(());
         }
-        poke(seen, sector_number(per, p), 1);
+        seen.add(per, p);
         from = p;
         p = link_of(disk, per, p);
     }
-    RING
-}
-
-// Follows the pages of a disk that has a VTOC. `why` is 0 to show them, as objects of JSON or as lines, or the refusal whose place is to be told.
-pub fn follow_pages(disk: &[u8], why: u8, object: bool) -> u8 {
-    let mut seen = [0u8; 560];
-    follow_seen(disk, sectors_of(disk), why, object, &mut seen)
+    Err(Refusal::Ring)
 }
 
 fn twin_on_page(disk: &[u8], per: u8, p: Place, raw: &[u8]) -> bool {
-    for i in 0..7u8 {
-        let x = entry_start(per, p, i);
-        if valid_file(byte_at(disk, x)) & names::is_twin(raw, raw_name(disk, x)) {
-            return true;
-        }
-    }
-    false
+    let mut entries = (0..7u8).map(|i| entry_start(per, p, i));
+    entries.any(|x| is_live(disk, x) & names::is_twin(raw, raw_name(disk, x)))
 }
 
 // A file of the disk, whose pages were followed before, has a name that shows as this one does and is cut differently.
 pub fn twin_on_disk(disk: &[u8], raw: &[u8]) -> bool {
     let per = sectors_of(disk);
     let mut p = first_page(disk, per);
-    for k in 0..560u16 {
+    for _ in 0..560u16 {
         if twin_on_page(disk, per, p, raw) {
             return true;
         }

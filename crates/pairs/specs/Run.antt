@@ -1,7 +1,8 @@
 -- The pairs of a list as structs in a lent run. Document 01, "Track/sector list": they are handed over in a lent run of pairs; 1, 3, 12.
 use Rattle.std.specs.Prelude.{cond, List, map, ℕ, length, leb, ltb}
+use Rattle.std.specs.Prelude.{Ok}
 use Rattle.outcome.specs.declared.Refusal.TheVariants.{TrayShort}
-use Rattle.outcome.specs.Outcome.{Outcome, given, ◌>>=◌, ◌>>◌, require}
+use Rattle.outcome.specs.Outcome.{Outcome, ◌>>=◌, ◌>>◌, require}
 use Rattle.disk.specs.declared.Place.{Place}
 use Rattle.files.specs.Contents.{max_pairs, pair_at, pairs_at}
 use Rattle.pairs.specs.declared.TrackSectorPair.{TrackSectorPair}
@@ -15,7 +16,7 @@ no_pair = record { track_number = 0; sector_number = 0 }
 
 -- what fits into room for so many; else 12
 abbrev pub fitting : {A : Type 0} → ℕ → Outcome (List A) → Outcome (List A)
-fitting room o = o >>= λ w. require (leb (length w) room) TrayShort >> given w
+fitting room o = o >>= λ w. require (leb (length w) room) TrayShort >> Ok w
 
 module _ (n : ℕ) (d : List ℕ) where
   -- pair i of the list at p, as a list has at most max_pairs
@@ -24,4 +25,4 @@ module _ (n : ℕ) (d : List ℕ) where
 
   -- the pairs of the list at p: 1, 3
   unfoldable pub pair_run : Place → Outcome (List TrackSectorPair)
-  pair_run p = pairs_at n d p >>= λ ps. given (map as_pair ps)
+  pair_run p = pairs_at n d p >>= λ ps. Ok (map as_pair ps)

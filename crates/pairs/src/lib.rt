@@ -9,11 +9,11 @@ ghost use Rattle.pairs.specs.Run.{pair_in, pair_run, fitting};
 
 use disk::{Place, Sector, Track, on_disk, sectors_of};
 use files::{MAX_PAIRS, parse_track_sector_list, parse_track_sector_pair};
-use outcome::{Handed, OFF_DISC, OFF_SIZE, TRAY_SHORT, accepted, refused};
+use outcome::Refusal;
 
 // One pair.
 #[repr(C)]
-#[derive(Clone, Copy)]
+#[derive(Clone, Copy, Debug, PartialEq, Eq)]
 pub struct TrackSectorPair {
     pub track_number: u8,
     pub sector_number: u8,
@@ -48,7 +48,7 @@ pub fn pair_at(disk: &[u8], track: u8, sector: u8, i: usize) -> TrackSectorPair
 }
 
 // What is answered for that list, where there is room for so many pairs: refusals 1, 3, 12, else the number of its pairs.
-fn answer_of(disk: &[u8], per: u8, track: u8, sector: u8, room: usize) -> Handed
+fn answer_of(disk: &[u8], per: u8, track: u8, sector: u8, room: usize) -> Result<usize, Refusal>
     ensures { result ≡ answer_of (fitting room (pair_run per disk.now (place track sector))) }
 {
     let p = Place {
@@ -56,43 +56,45 @@ fn answer_of(disk: &[u8], per: u8, track: u8, sector: u8, room: usize) -> Handed
         sector: Sector(sector),
     };
     if disk.len() != 256 * (35 * (per as usize)) {
-        return refused(OFF_SIZE);
+        return Err(Refusal::OffSize);
     }
     if !on_disk(per, p) {
-        return refused(OFF_DISC);
+        return Err(Refusal::OffDisc);
     }
     let count = parse_track_sector_list(disk, per, p).count as usize;
     if room < count {
-        return refused(TRAY_SHORT);
+        return Err(Refusal::TrayShort);
     }
-    accepted(count)
+    Ok(count)
 }
 
 // The same of a flat disk.
-pub fn run_answer(disk: &[u8], track: u8, sector: u8, room: usize) -> Handed
+pub fn run_answer(disk: &[u8], track: u8, sector: u8, room: usize) -> Result<usize, Refusal>
     ensures { result ≡ answer_of (fitting room (pair_run (per_of disk.now) disk.now (place track sector))) }
 {
     answer_of(disk, sectors_of(disk), track, sector, room)
 }
 
 // The pairs of the list at a location, from the front of the run; those past them stay. Refusals 1, 3, 12.
-pub fn pair_run(disk: &[u8], track: u8, sector: u8, run: &mut [TrackSectorPair]) -> Handed
+pub fn pair_run(
+    disk: &[u8],
+    track: u8,
+    sector: u8,
+    run: &mut [TrackSectorPair],
+) -> Result<usize, Refusal>
     ensures { Hands (pair_run (per_of disk.now) disk.now (place track sector)) run.old run.new result }
 {
-    let answer = run_answer(disk, track, sector, run.len());
-    let n = answer.length;
-    let mut i = 0;
-    while i < n {
+    let n = run_answer(disk, track, sector, run.len())?;
+    for i in 0..n {
         run[i] = pair_at(disk, track, sector, i);
-        i += 1;
     }
-    answer
+    Ok(n)
 }
 
 // The answer of `run_of_four`, and the run as it is left.
-#[derive(Clone, Copy)]
+#[derive(Clone, Copy, Debug, PartialEq, Eq)]
 pub struct RunOfFour {
-    pub answer: Handed,
+    pub answer: Result<usize, Refusal>,
     pub pairs: [TrackSectorPair; 4],
 }
 

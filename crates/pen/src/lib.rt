@@ -1,214 +1,107 @@
-// What is written goes into `out` from place n on, and the place behind it is answered. What does not fit is left out.
+// Names and paths as they are written in a picture, and the colours of files.
 #![tactic(auto)]
 
 pub mod colours;
 
-use lists::byte_at;
-use screen::json::{follow, is_wide};
-use screen::sums::after;
+use std::alloc::{AllocError, Global};
+use std::fmt;
 
-// A byte.
-fn push(out: &mut [u8], n: usize, b: u8) -> usize {
-    if n < out.len() {
-        out[n] = b;
-        return n + 1;
-    }
-    n
+// A piece of a name or a path: a character, or a byte that is shown by its number.
+#[derive(Clone, Copy, Debug, PartialEq, Eq)]
+enum Piece {
+    Character(char),
+    Byte(u8),
 }
 
-pub fn add(out: &mut [u8], n: usize, s: &[u8]) -> usize {
-    if out.len() < n {
-        return n;
-    }
-    if out.len() - n < s.len() {
-        return n;
-    }
-    lists::copy_at(s, out, n);
-    n + s.len()
-}
-
-fn number(out: &mut [u8], n: usize, v: u32) -> usize {
-    let mut digits = [0u8; 20];
-    let k = io::decimal(v as u64, &mut digits);
-    add(out, n, &digits[..k])
-}
-
-// Hexadecimal digits.
-fn hex(out: &mut [u8], n: usize, v: u32, width: usize) -> usize {
-    let mut digits = [0u8; 16];
-    let k = io::hex(v as u64, width, &mut digits);
-    add(out, n, &digits[..k])
-}
-
-fn letter(out: &mut [u8], n: usize, v: u32) -> usize {
-    if v == 0 {
-        return n;
-    }
-    push(out, n, (v % 128) as u8)
-}
-
-fn value_at(values: &[u32], k: usize) -> u32 {
-    if k < values.len() {
-        return values[k];
-    }
-    0
-}
-
-// A byte of a form: at `%` the number, at `$` the number as a colour, at `@` as a letter.
-fn sign(out: &mut [u8], n: usize, b: u8, v: u32) -> usize {
-    match b {
-        b'%' => number(out, n, v),
-        b'$' => hex(out, n, v, 6),
-        b'@' => letter(out, n, v),
-        _ => push(out, n, b),
-    }
-}
-
-// How many values a byte of a form takes.
-fn takes(b: u8) -> usize {
-    if (b == b'%') | ((b == b'$') | (b == b'@')) {
-        return 1;
-    }
-    0
-}
-
-// A form with its values: each `%` in it is a number, each `$` the digits of a colour, and each `@` a letter, or nothing for 0.
-pub fn form(out: &mut [u8], at: usize, text: &[u8], values: &[u32]) -> usize {
-    let mut n = at;
-    let mut k: usize = 0;
-    let mut i: usize = 0;
-    while i < text.len() {
-        n = sign(out, n, text[i], value_at(values, k));
-        k = after(k, takes(text[i]));
-        i += 1;
-    }
-    n
-}
-
-// The three bytes of a character that XML does not take, U+FFFE or U+FFFF.
-fn is_barred(s: &[u8]) -> bool {
-    (byte_at(s, 0) == 239) & ((byte_at(s, 1) == 191) & (189 < byte_at(s, 2)))
-}
-
-// How many bytes the character takes with which s begins; a byte that is none of UTF-8 stands for itself.
-fn taken(s: &[u8]) -> usize {
-    let n = follow(byte_at(s, 0));
-    if is_wide(s, n) & !is_barred(s) {
-        return n + 1;
-    }
-    1
-}
-
-// The byte is shown by its number.
-fn is_odd(b: u8) -> bool {
-    (b < 32) | (126 < b)
-}
-
-// How many columns the character takes with which s begins.
-fn columns(s: &[u8]) -> usize {
-    let k = taken(s);
-    if 2 < k {
-        return 2;
-    }
-    let b = byte_at(s, 0);
-    if (1 < k) | !(is_odd(b) | (b == 92)) {
-        return 1;
-    }
-    if b == 92 {
-        return 2;
-    }
-    4
-}
-
-// A plain byte, as XML has it.
-fn plain(out: &mut [u8], n: usize, b: u8) -> usize {
-    match b {
-        34 => add(out, n, b"&quot;"),
-        38 => add(out, n, b"&amp;"),
-        60 => add(out, n, b"&lt;"),
-        62 => add(out, n, b"&gt;"),
-        92 => add(out, n, b"\\\\"),
-        _ => push(out, n, b),
-    }
-}
-
-// The character with which s begins.
-fn character(out: &mut [u8], n: usize, s: &[u8]) -> usize {
-    let k = taken(s);
-    if 1 < k {
-        return add(out, n, lists::part(s, 0, k));
-    }
-    let b = byte_at(s, 0);
-    if is_odd(b) {
-        let m = add(out, n, b"\\x");
-        return hex(out, m, b as u32, 2);
-    }
-    plain(out, n, b)
-}
-
-// A name or a path in at most so many columns, and `...` where it has more. Neither has more than 4,096 bytes.
-pub fn shown(out: &mut [u8], at: usize, s: &[u8], most: usize) -> usize {
-    let mut n = at;
-    let mut wide: usize = 0;
-    let mut i: usize = 0;
-    for turn in 0..4096u16 {
-        if s.len() <= i {
-            return n;
+impl Piece {
+    // How many columns it takes.
+    fn columns(self) -> usize {
+        match self {
+            Piece::Byte(_) => 4,
+            Piece::Character('\\') => 2,
+            Piece::Character(c) if 2 < c.len_utf8() => 2,
+            Piece::Character(_) => 1,
         }
-        let c = lists::part(s, i, 4);
-        wide = after(wide, columns(c));
+    }
+}
+
+// As XML has it.
+impl fmt::Display for Piece {
+    fn fmt<W: fmt::Write>(&self, f: &mut fmt::Formatter<W>) -> fmt::Result {
+        match *self {
+            Piece::Byte(b) => write!(f, "\\x{b:02x}"),
+            Piece::Character('"') => write!(f, "&quot;"),
+            Piece::Character('&') => write!(f, "&amp;"),
+            Piece::Character('<') => write!(f, "&lt;"),
+            Piece::Character('>') => write!(f, "&gt;"),
+            Piece::Character('\\') => write!(f, "\\\\"),
+            Piece::Character(c) => write!(f, "{c}"),
+        }
+    }
+}
+
+// The character is one that a terminal may act on, or that XML does not take.
+fn is_odd(c: char) -> bool {
+    (c < ' ') | (c == '\x7f') | (c == '\u{fffe}') | (c == '\u{ffff}')
+}
+
+fn pieces(alloc: Global, s: &[u8]) -> Result<Vec<Piece>, AllocError> {
+    let mut pieces = Vec::new(alloc);
+    for chunk in s.utf8_chunks() {
+        for c in chunk.valid().chars() {
+            if !is_odd(c) {
+                pieces.push(Piece::Character(c))?;
+                continue;
+            }
+            let mut bytes = [0u8; 4];
+            for b in c.encode_utf8(&mut bytes).as_bytes() {
+                pieces.push(Piece::Byte(*b))?;
+            }
+        }
+        for b in chunk.invalid() {
+            pieces.push(Piece::Byte(*b))?;
+        }
+    }
+    Ok(pieces)
+}
+
+// The pieces in at most so many columns, and `...` where they have more.
+fn write_pieces(out: &mut String, pieces: &[Piece], most: usize) -> Result<(), AllocError> {
+    let mut wide: usize = 0;
+    for piece in pieces {
+        wide = wide.saturating_add(piece.columns());
         if most < wide {
-            return add(out, n, b"...");
+            return out.push_str("...");
         }
-        n = character(out, n, c);
-        i = after(i, taken(c));
+        write!(out, "{piece}")?;
     }
-    n
+    Ok(())
 }
 
-// How many columns it takes.
-fn width(s: &[u8]) -> usize {
+// A name or a path in at most so many columns, and `...` where it has more.
+pub fn shown(out: &mut String, alloc: Global, s: &[u8], most: usize) -> Result<(), AllocError> {
+    let pieces = pieces(alloc, s)?;
+    write_pieces(out, pieces.as_slice(), most)
+}
+
+// The end that takes at most so many columns.
+fn end_of(pieces: &[Piece], most: usize) -> &[Piece] {
     let mut wide: usize = 0;
-    let mut i: usize = 0;
-    for turn in 0..4096u16 {
-        if s.len() <= i {
-            return wide;
+    for (i, piece) in pieces.iter().enumerate().rev() {
+        wide = wide.saturating_add(piece.columns());
+        if most < wide {
+            return &pieces[i + 1..];
         }
-        let c = lists::part(s, i, 4);
-        wide = after(wide, columns(c));
-        i = after(i, taken(c));
     }
-    wide
-}
-
-fn less(a: usize, b: usize) -> usize {
-    if a < b {
-        return 0;
-    }
-    a - b
-}
-
-// Where its end begins that takes at most so many columns.
-fn end_start(s: &[u8], most: usize) -> usize {
-    let mut wide = width(s);
-    let mut i: usize = 0;
-    for turn in 0..4096u16 {
-        if wide <= most {
-            return i;
-        }
-        let c = lists::part(s, i, 4);
-        wide = less(wide, columns(c));
-        i = after(i, taken(c));
-    }
-    i
+    pieces
 }
 
 // A path by its end, in 80 columns and `...` before it where it has more.
-pub fn shown_end(out: &mut [u8], n: usize, s: &[u8]) -> usize {
-    let i = end_start(s, 80);
-    if i == 0 {
-        return shown(out, n, s, 80);
+pub fn shown_end(out: &mut String, alloc: Global, s: &[u8]) -> Result<(), AllocError> {
+    let pieces = pieces(alloc, s)?;
+    let end = end_of(pieces.as_slice(), 80);
+    if end.len() < pieces.len() {
+        out.push_str("...")?;
     }
-    let m = add(out, n, b"...");
-    shown(out, m, lists::part(s, i, s.len()), 80)
+    write_pieces(out, end, 80)
 }

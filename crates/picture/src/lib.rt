@@ -3,86 +3,76 @@
 
 use disk::{Place, Sector, Track, sectors_of};
 use holders::is_free;
-use screen::sums::{more, poke};
-use screen::{STDOUT_FILENO, right, say, sector_number};
-use uses::{is_shared, role, use_at, uses_of};
+use screen::{STDOUT_FILENO, right, say};
+use uses::{Holder, Uses, uses_of};
 
-// The letters of the roles and, behind them, of what is shared; then those for sectors that the VTOC's map calls free.
-const USED: [u8; 8] = *b"#VCLDX##";
+const TRACKS: u8 = 35;
 
-const FREE: [u8; 8] = *b".vcldx..";
-
-// The place of a sector's letter among these.
-fn place_of(n: u32) -> usize {
-    if is_shared(n) {
-        return 5;
+// The letter of a sector, by what it serves.
+fn held_letter(uses: &Uses, p: Place) -> u8 {
+    let sector = uses.at(p);
+    if sector.is_shared() {
+        return b'X';
     }
-    role(n) as usize
+    match sector.first() {
+        Some(Holder::Vtoc) => b'V',
+        Some(Holder::Page) => b'C',
+        Some(Holder::List(_)) => b'L',
+        Some(Holder::Data(_)) => b'D',
+        None => b'#',
+    }
 }
 
-// The letter of a sector.
-fn letter(disk: &[u8], per: u8, uses: &[u32], track: u8, sector: u8) -> u8 {
+// The letter of a sector: a small one, or a dot, where the VTOC's map calls it free.
+fn letter(disk: &[u8], per: u8, uses: &Uses, track: u8, sector: u8) -> u8 {
     let p = Place {
         track: Track(track),
         sector: Sector(sector),
     };
-    let k = place_of(use_at(uses, sector_number(per, p)));
-    if is_free(disk, per, p) {
-        return FREE[k % 8];
+    match held_letter(uses, p) {
+        held if !is_free(disk, per, p) => held,
+        b'#' => b'.',
+        held => held.to_ascii_lowercase(),
     }
-    USED[k % 8]
 }
 
-fn row(disk: &[u8], per: u8, uses: &[u32], track: u8) {
+// The letters of a track.
+fn letters(disk: &[u8], per: u8, uses: &Uses, track: u8) -> [u8; 16] {
     let mut letters = [0u8; 16];
-    for s in 0..per {
-        poke(&mut letters, s as usize, letter(disk, per, uses, track, s));
+    for (sector, place) in (0..per).zip(letters.iter_mut()) {
+        *place = letter(disk, per, uses, track, sector);
     }
-    right(STDOUT_FILENO, track as u64, 6);
-    say(b"   ");
-    say(lists::part(&letters, 0, per as usize));
-    say(b"\n");
+    letters
 }
 
-fn rows(disk: &[u8], per: u8, uses: &[u32]) {
-    for track in 0..35u8 {
-        row(disk, per, uses, track);
+fn rows(disk: &[u8], per: u8, uses: &Uses) {
+    for track in 0..TRACKS {
+        right(STDOUT_FILENO, u64::from(track), 6);
+        say(b"   ");
+        let row = letters(disk, per, uses, track);
+        say(lists::part(&row, 0, per as usize));
+        say(b"\n");
     }
 }
 
-// n, and how many sectors of a track have this letter, or with `small` any small letter.
-fn count_row(
-    disk: &[u8],
-    per: u8,
-    uses: &[u32],
-    track: u8,
-    wanted: u8,
-    small: bool,
-    n: u64,
-) -> u64 {
-    let mut m = n;
-    for s in 0..per {
-        let c = letter(disk, per, uses, track, s);
-        m = more(m, (c == wanted) | (small & (96 < c)));
-    }
-    m
-}
-
-// How many sectors of the disk have it.
-fn count_letter(disk: &[u8], per: u8, uses: &[u32], wanted: u8, small: bool) -> u64 {
+// How many sectors have such a letter.
+fn count_letters<F: Fn(u8) -> bool>(disk: &[u8], per: u8, uses: &Uses, wanted: F) -> u64
+    requires { F.IsAlwaysCallable wanted }
+{
     let mut n: u64 = 0;
-    for track in 0..35u8 {
-        n = count_row(disk, per, uses, track, wanted, small, n);
+    for track in 0..TRACKS {
+        for sector in 0..per {
+            if wanted(letter(disk, per, uses, track, sector)) {
+                n = n.saturating_add(1);
+            }
+        }
     }
     n
 }
 
-fn legend(disk: &[u8], per: u8, uses: &[u32], wanted: u8, what: &[u8]) {
-    right(
-        STDOUT_FILENO,
-        count_letter(disk, per, uses, wanted, false),
-        6,
-    );
+fn legend(disk: &[u8], per: u8, uses: &Uses, wanted: u8, what: &[u8]) {
+    let n = count_letters(disk, per, uses, |c| c == wanted);
+    right(STDOUT_FILENO, n, 6);
     say(b"   ");
     say(&[wanted]);
     say(b"   ");
@@ -90,7 +80,7 @@ fn legend(disk: &[u8], per: u8, uses: &[u32], wanted: u8, what: &[u8]) {
     say(b"\n");
 }
 
-fn legends(disk: &[u8], per: u8, uses: &[u32]) {
+fn legends(disk: &[u8], per: u8, uses: &Uses) {
     legend(disk, per, uses, b'V', b"VTOC");
     legend(disk, per, uses, b'C', b"catalog page");
     legend(disk, per, uses, b'L', b"track/sector list");
@@ -110,7 +100,8 @@ fn legends(disk: &[u8], per: u8, uses: &[u32]) {
         b'#',
         b"used in the map, in no chain: DOS itself, or lost",
     );
-    right(STDOUT_FILENO, count_letter(disk, per, uses, 0, true), 6);
+    let small = count_letters(disk, per, uses, |c| c.is_ascii_lowercase());
+    right(STDOUT_FILENO, small, 6);
     say(b"       small letters: in a chain, free in the map");
 }
 

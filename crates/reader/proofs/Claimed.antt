@@ -3,14 +3,13 @@ use mathlib.Core.Path.{◌≡◌, refl, sym, ap, ◌∙◌}
 use mathlib.Core.Bool.{Bool, true, false}
 use mathlib.Core.List.{List, [], ◌∷◌, ◌++◌}
 use Prim.Native.Nat.{ℕ, zero, suc, ◌+◌, ◌-◌, ◌/◌}
-use native.Mathlib.Omega.{arith}
 use lib.ListN.{length, get_or, drop}
 use lib.Dec.{eqb, leb}
 use Rattle.lists.specs.Fill.{Bytes}
 use Rattle.lists.proofs.Split.{by_test}
+use Rattle.std.specs.Prelude.{Ok, Err}
 use Rattle.outcome.specs.declared.Refusal.TheVariants.{NotItsReturn}
-use Rattle.outcome.specs.Refusal.{code}
-use Rattle.outcome.specs.Outcome.{Outcome, refused, given, ◌>>=◌, ◌>>◌, require}
+use Rattle.outcome.specs.Outcome.{Outcome, ◌>>=◌, ◌>>◌, require}
 use Rattle.outcome.proofs.Outcome.{refused_given}
 use Rattle.files.specs.Contents.{File, Contents}
 use Rattle.archive.specs.Reader.{size_in, entry_in, sound_entry, part_in, sound_data, entries_from, data_from, sound_first, opened}
@@ -21,12 +20,12 @@ use Rattle.reader.proofs.Stepping.{steps, exact}
 
 -- ---- 13 alone is refused
 abbrev Only : {A : Type 0} → Outcome A → Type 0
-Only (refused r) = r ≡ NotItsReturn
-Only (given x) = Unit {0}
+Only (Err r) = r ≡ NotItsReturn
+Only (Ok x) = Unit {0}
 
-only_then : {A B : Type 0} (o : Outcome A) (f : A → B) → Only o → Only (o >>= λ x. given (f x))
-only_then (refused r) f h = h
-only_then (given x) f h = tt
+only_then : {A B : Type 0} (o : Outcome A) (f : A → B) → Only o → Only (o >>= λ x. Ok (f x))
+only_then (Err r) f h = h
+only_then (Ok x) f h = tt
 
 only_tested : {A : Type 0} (t : Bool) (o : Outcome A) → Only o → Only (require t NotItsReturn >> o)
 only_tested true o h = h
@@ -62,13 +61,13 @@ opened_only a =
     (only_then (entries_from n 1 (drop 256 a)) (λ fs. record { volume = get_or a 0 0; files = fs }) (entries_only n 1 (drop 256 a)))
 
 -- ---- so it is refused where nothing is given
-no_contents : (a : List ℕ) (o : Outcome Contents) → opened a ≡ o → (opened_with o).refusal ≡ 13 → Bytes a → (c : Contents) → ArchiveOf a c → ⊥
-no_contents a (refused r) e z h c i = refused_given (sym e ∙ (opened_is a c h).1 i)
-no_contents a (given x) e z h c i = omega arith
+no_contents : (a : List ℕ) (o : Outcome Contents) → opened a ≡ o → opened_with o ≡ Err NotItsReturn → Bytes a → (c : Contents) → ArchiveOf a c → ⊥
+no_contents a (Err r) e z h c i = refused_given (sym e ∙ (opened_is a c h).1 i)
+no_contents a (Ok x) e z h c i = refused_given (sym z)
 
-no_archive : (a : List ℕ) (o : Outcome Contents) → opened a ≡ o → Only o → Bytes a → ((c : Contents) → ArchiveOf a c → ⊥) → (opened_with o).refusal ≡ 13
-no_archive a (refused r) e q h none = ap code q
-no_archive a (given x) e q h none = absurd (none x ((opened_is a x h).0 e))
+no_archive : (a : List ℕ) (o : Outcome Contents) → opened a ≡ o → Only o → Bytes a → ((c : Contents) → ArchiveOf a c → ⊥) → opened_with o ≡ Err NotItsReturn
+no_archive a (Err r) e q h none = ap Err q
+no_archive a (Ok x) e q h none = absurd (none x ((opened_is a x h).0 e))
 
 pub reading : Reading
 reading =

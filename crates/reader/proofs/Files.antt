@@ -1,4 +1,5 @@
 -- The blocks of an archive, from a block on, are those of the files from a file on. Assumes nothing.
+use Rattle.std.specs.Prelude.{Some, Ok}
 use mathlib.Core.Path.{◌≡◌, refl, sym, ap, subst, ◌∙◌}
 use mathlib.Core.Bool.{Bool, true, false, cond}
 use mathlib.Core.List.{List, [], ◌∷◌, ◌++◌}
@@ -12,7 +13,6 @@ use Rattle.lists.specs.Fill.{Bytes, padded}
 use Rattle.lists.specs.Words.{word_at}
 use Rattle.lists.proofs.Words.{two}
 use Rattle.lists.specs.Every.{Every, more}
-use Rattle.outcome.specs.Outcome.{given}
 use Rattle.catalog.specs.Catalog.{shown}
 use Rattle.files.specs.Contents.{File, Contents, Proper}
 use Rattle.files.specs.Survey.{blocks_for, data_blocks, blocks_in, blocks}
@@ -34,7 +34,7 @@ pub record From (a : List ℕ) (b : ℕ) (fs : List File) : Type 0 where
   pub few : b + blocks_in fs ≤ 4096
 
 -- the first file
-pub from_first : (a : List ℕ) (c : Contents) → Bytes a → opened a ≡ given c → From a 1 c.files
+pub from_first : (a : List ℕ) (c : Contents) → Bytes a → opened a ≡ Ok c → From a 1 c.files
 unfolding archive
 from_first a c h o =
     let s = (opened_is a c h).0 o in
@@ -145,7 +145,7 @@ module _ (a : List ℕ) (b : ℕ) (f : File) (fs : List File) (r : From a b (f �
   from_raw = ap (λ (g : File). g.raw) file
 
   -- the step
-  pub from_step : entry_step a b ≡ fields_of b f fs
+  pub from_step : entry_step a b ≡ Some (fields_of b f fs)
   unfolding entry_step fields_in fields_of entry_in
   from_step =
       let e₁ : get_or (drop (256 * b) a) 4 0 ≡ f.kind = ap (λ (g : File). g.kind) file in
@@ -157,9 +157,8 @@ module _ (a : List ℕ) (b : ℕ) (f : File) (fs : List File) (r : From a b (f �
       let e₇ : size_in (drop (256 * b) a) ≡ length f.bytes = ap size_in here ∙ entry_size _ _ _ f p.raw_length behind small in
       rw is_entry_lem
       (λ i.
-      record {
-        refusal = 0;
-        found = 1;
+      Some
+      (record {
         next = e₄ i;
         first = e₅ i;
         kind = e₁ i;
@@ -167,7 +166,7 @@ module _ (a : List ℕ) (b : ℕ) (f : File) (fs : List File) (r : From a b (f �
         name_length = e₆ i;
         count = e₃ i;
         size = e₇ i;
-      })
+      }))
 
 -- ---- the data of a file
 -- its first part

@@ -1,10 +1,10 @@
 -- The reader's tests, as its code makes them. Assumes nothing.
 use mathlib.Core.Path.{◌≡◌, refl, sym, ap, ◌∙◌}
+use mathlib.Core.Logic.{◌↔◌}
 use mathlib.Core.Bool.{Bool, true, false, cond, not, ◌&&◌, ◌||◌}
 use mathlib.Core.List.{List, [], ◌∷◌, ◌++◌, append_assoc}
 use Prim.Native.Nat.{ℕ, zero, suc, ◌+◌, ◌*◌, ◌-◌, ◌/◌, ◌%◌, ◌<◌, ◌≤◌}
 use native.Mathlib.Omega.{arith}
-use native.Mathlib.Numerals.{add-one}
 use lib.ListN.{length, get_or, take, drop, length-append, length-drop, length-take, drop_of_length-le, replicate}
 use lib.Seq.{drop-cons, drop-drop, take-add, take_all, take-take}
 use lib.Dec.{eqb, leb, ltb}
@@ -12,6 +12,8 @@ use borrow.Author.Tests.{eq-eqb, ne_eqb, eqb-true, le-leb, lt-leb, not-true, not
 use borrow.Author.Rules.{rules}
 use mir.Val.{Fits}
 use mir.Syntax.{w8}
+use Rattle.std.specs.Prelude.{All}
+use Rattle.lists.proofs.Iterated.{all_is}
 use Rattle.lists.specs.Fill.{padded}
 use Rattle.lists.specs.Select.{all, among}
 use Rattle.lists.specs.Same.{same}
@@ -74,26 +76,8 @@ long_raw size f e =
     eqb-true _ _ p₃.0
 
 -- ---- zeros
--- the first k pass
-pub record Zeros (s : List ℕ) (k : ℕ) : Type 0 where
-  pub is : all (λ b. eqb b 0) s ≡ all (λ b. eqb b 0) (drop k s)
-
-pub zeros_none : (s : List ℕ) → Zeros s 0
-zeros_none s = record { is = refl }
-
-pub zeros_more : (s : List ℕ) (k : ℕ) → Zeros s k → k < length s → get_or s k 0 ≡ 0 → Zeros s (k + 1)
-unfolding all
-zeros_more s k p h l = record { is = p.is ∙ rw (drop-cons s k 0 h, eq-eqb _ _ l, add-one k) refl }
-
-pub zeros_not : (s : List ℕ) (k : ℕ) → Zeros s k → k < length s → (get_or s k 0 ≡ 0 → ⊥) → false ≡ all (λ b. eqb b 0) s
-unfolding all
-zeros_not s k p h l = sym (p.is ∙ rw (drop-cons s k 0 h, ne_eqb _ _ l) refl)
-
-pub zeros_all : (s : List ℕ) (k : ℕ) → Zeros s k → length s ≤ k → true ≡ all (λ b. eqb b 0) s
-unfolding all
-zeros_all s k p h = sym (p.is ∙ rw (drop_of_length-le s {i = k} h) refl)
-
-pub ruleset blanks = (zeros_none, zeros_more, zeros_not, zeros_all, rules)
+pub blank_is : (s : List ℕ) (r : Bool) → (r ≡ true) ↔ All (λ b. b ≡ 0) s → r ≡ all (λ b. eqb b 0) s
+blank_is s r h = all_is (λ b. b ≡ 0) (λ b. eqb b 0) (λ x. (eqb-true x 0, eq-eqb x 0)) s r h
 
 -- a list of zeros
 same_zeros : (xs : List ℕ) → same xs (replicate (length xs) 0) ≡ all (λ b. eqb b 0) xs

@@ -1,42 +1,36 @@
 -- The reader's answers, and its steps. Document 01, "Return": its steps give the load's entries, each once and in order, and after the last it says end.
-use Rattle.std.specs.Prelude.{Bool, cond, ◌&&◌, List, [], ◌∷◌, ℕ, ◌+◌, ◌*◌, ◌-◌, ◌/◌, length, get_or, take, drop, ltb, eqb}
+use Rattle.std.specs.Prelude.{◌≡◌, Bool, cond, ◌&&◌, List, [], ◌∷◌, ℕ, ◌+◌, ◌*◌, ◌-◌, ◌/◌, length, get_or, take, drop, ltb, eqb}
 use Rattle.lists.specs.Words.{word_at}
-use Rattle.outcome.specs.Refusal.{code}
-use Rattle.outcome.specs.Outcome.{Outcome, refused, given}
+use Rattle.std.specs.Prelude.{Option, Some, None, Ok, Err}
+use Rattle.outcome.specs.Outcome.{Outcome, ◌>>=◌}
 use Rattle.catalog.specs.Catalog.{shown}
 use Rattle.files.specs.Contents.{File, Contents}
 use Rattle.files.specs.Survey.{data_blocks, blocks}
 use Rattle.archive.specs.Archive.{if_any}
-use Rattle.archive.specs.Reader.{size_in, sound_entry, part_in}
+use Rattle.archive.specs.Reader.{size_in, sound_entry, part_in, opened}
 use Rattle.reader.specs.declared.Opened.{Opened}
 use Rattle.reader.specs.declared.Entry.{Entry}
 
 -- ---- opening
--- nothing is opened: zeros beside the refusal
-abbrev pub not_opened : ℕ → Opened
-not_opened n = record { refusal = n; volume = 0; first = 0; blocks = 0 }
+-- what is answered of contents: the volume, the first entry block (0 for none), the number of blocks
+abbrev pub opening : Contents → Opened
+opening c = record { volume = c.volume; first = if_any c.files 1; blocks = blocks c }
 
--- what opening answers: the volume, the first entry block (0 for none), the number of blocks
-abbrev pub opened_with : Outcome Contents → Opened
-opened_with (refused r) = not_opened (code r)
-opened_with (given c) = record { refusal = 0; volume = c.volume; first = if_any c.files 1; blocks = blocks c }
+-- what opening answers
+abbrev pub opened_with : Outcome Contents → Outcome Opened
+opened_with o = o >>= λ c. Ok (opening c)
+
+-- where the steps begin: the first entry block, and 0 where nothing is opened
+abbrev pub begins : Outcome Opened → ℕ
+begins (Err r) = 0
+begins (Ok o) = o.first
+
+-- a can be opened
+pub record Opens (a : List ℕ) : Type 0 where
+  pub contents : Contents
+  pub is : opened a ≡ Ok contents
 
 -- ---- an entry
--- none: zeros, beside a refusal or 0
-abbrev pub no_entry : ℕ → Entry
-no_entry n =
-    record {
-      refusal = n;
-      found = 0;
-      next = 0;
-      first = 0;
-      kind = 0;
-      locked = 0;
-      name_length = 0;
-      count = 0;
-      size = 0;
-    }
-
 -- the bytes of a from block b on
 abbrev pub from_block : List ℕ → ℕ → List ℕ
 from_block a b = drop (256 * b) a
@@ -45,8 +39,6 @@ from_block a b = drop (256 * b) a
 unfoldable pub fields_in : List ℕ → Entry
 fields_in s =
     record {
-      refusal = 0;
-      found = 1;
       next = word_at s 0;
       first = word_at s 2;
       kind = get_or s 4 0;
@@ -61,16 +53,14 @@ unfoldable pub is_entry : List ℕ → ℕ → Bool
 is_entry a b = ltb 0 b && (ltb b 4096 && sound_entry (length a / 256 - (b + 1)) b (from_block a b))
 
 -- the step that looks at block b alone: its fields, else the end
-unfoldable pub entry_step : List ℕ → ℕ → Entry
-entry_step a b = cond (is_entry a b) (fields_in (from_block a b)) (no_entry 0)
+unfoldable pub entry_step : List ℕ → ℕ → Option Entry
+entry_step a b = cond (is_entry a b) (Some (fields_in (from_block a b))) None
 
 -- the fields of a file whose entry block is block b, fs being the files behind it
 unfoldable pub fields_of : ℕ → File → List File → Entry
 fields_of b f fs =
     let k = data_blocks f in
     record {
-      refusal = 0;
-      found = 1;
       next = if_any fs (b + 1 + k);
       first = cond (eqb k 0) 0 (b + 1);
       kind = f.kind;
@@ -81,14 +71,13 @@ fields_of b f fs =
     }
 
 -- those of the file that has entry block b, where the first of the files has block i; else the end
-unfoldable pub entry_of : ℕ → List File → ℕ → Entry
-entry_of i [] b = no_entry 0
-entry_of i (f ∷ fs) b = let rest = entry_of (i + 1 + data_blocks f) fs b in cond (eqb i b) (fields_of i f fs) rest
+unfoldable pub entry_of : ℕ → List File → ℕ → Option Entry
+entry_of i [] b = None
+entry_of i (f ∷ fs) b = let rest = entry_of (i + 1 + data_blocks f) fs b in cond (eqb i b) (Some (fields_of i f fs)) rest
 
 -- the step that looks at all: 13 for bytes that are no archive
-abbrev pub entry_with : Outcome Contents → ℕ → Entry
-entry_with (refused r) b = no_entry (code r)
-entry_with (given c) b = entry_of 1 c.files b
+abbrev pub entry_with : Outcome Contents → ℕ → Outcome (Option Entry)
+entry_with o b = o >>= λ c. Ok (entry_of 1 c.files b)
 
 -- the name in block b, as it is shown
 abbrev pub name_in : List ℕ → ℕ → List ℕ

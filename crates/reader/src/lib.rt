@@ -1,34 +1,30 @@
 // Archives read back, with no disk: document 01, the reader under "Return". (The Rust has none.)
 #![tactic(auto)]
 
-ghost use Rattle.std.specs.Prelude.{◌≡◌, ◌+◌, ◌*◌, ◌-◌, ◌/◌, ◌%◌, ◌<◌, ◌≤◌, cond, [], take, drop, eqb};
+ghost use Rattle.std.specs.Prelude.{◌≡◌, Ok, ◌+◌, ◌*◌, ◌%◌, ◌<◌, ◌≤◌, cond, [], take, drop, eqb};
 ghost use Rattle.lists.specs.Select.{all};
 ghost use Rattle.lists.specs.Same.{same};
-ghost use Rattle.outcome.specs.Outcome.{number};
-ghost use Rattle.archive.specs.Reader.{size_in, entry_in, allowed, sound_entry, sound_data, sound_first, entries_from, data_from, opened};
-ghost use Rattle.reader.specs.Steps.{not_opened, opened_with, no_entry, fields_in, is_entry, entry_step, entry_with, name_in, raw_in, data_part, next_data};
+ghost use Rattle.archive.specs.Reader.{size_in, entry_in, allowed, sound_entry, sound_data, sound_first, entries_from, data_from, opened, whether};
+ghost use Rattle.reader.specs.Steps.{Opens, opened_with, fields_in, is_entry, entry_step, entry_with, name_in, raw_in, data_part, next_data};
 ghost use Rattle.reader.specs.Tests.{links_due, name_due, blank_entry};
 
 use archive::first_block;
 use catalog::{bad_letter, file_type, filename};
 use lists::{byte_at, part, same, word_at};
-use outcome::NOT_ITS_RETURN;
+use outcome::Refusal;
 
-// What opening answers: a refusal, or the volume, the first entry block (0 for none) and the number of blocks.
-#[derive(Clone, Copy)]
+// What opening answers: the volume, the first entry block (0 for none) and the number of blocks.
+#[derive(Clone, Copy, Debug, PartialEq, Eq)]
 pub struct Opened {
-    pub refusal: u8,
     pub volume: u8,
     pub first: u16,
     pub blocks: u16,
 }
 
-// What a step answers: a refusal; 1 for an entry, 0 for the end; the next entry block (0 after the last), the first data block (0 for no data), and the
-// entry's fields: type, lock, length of the name, sector count, length of the data.
-#[derive(Clone, Copy)]
+// What a step answers of an entry: the next entry block (0 after the last), the first data block (0 for no data), and the entry's fields: type, lock, length
+// of the name, sector count, length of the data.
+#[derive(Clone, Copy, Debug, PartialEq, Eq)]
 pub struct Entry {
-    pub refusal: u8,
-    pub found: u8,
     pub next: u16,
     pub first: u16,
     pub kind: u8,
@@ -64,10 +60,7 @@ fn size_in(s: &[u8]) -> u32
 fn link(none: bool, b: usize) -> u16
     ensures { result ≡ cond none 0 b % 65536 }
 {
-    if none {
-        return 0;
-    }
-    (b % 65536) as u16
+    if none { 0 } else { (b % 65536) as u16 }
 }
 
 // The file that s begins with is allowed.
@@ -85,14 +78,7 @@ fn allowed_entry(s: &[u8]) -> bool
 fn blank(s: &[u8]) -> bool
     ensures { result ≡ all (λ b. eqb b 0) s.now }
 {
-    let mut k: usize = 0;
-    while k < s.len() {
-        if s[k] != 0 {
-            return false;
-        }
-        k += 1;
-    }
-    true
+    s.iter().all(|b| *b == 0)
 }
 
 // The links in the first four bytes of s are those that its fields ask for, where it is block b, with n blocks behind it.
@@ -103,12 +89,9 @@ fn links_due(s: &[u8], b: usize, n: usize) -> bool
     let k = (size_in(s) as usize + 253) / 254;
     let next = link(k == n, b + 1 + k);
     let first = link(k == 0, b + 1);
-    let links = [
-        (next % 256) as u8,
-        (next / 256 % 256) as u8,
-        (first % 256) as u8,
-        (first / 256 % 256) as u8,
-    ];
+    let [next_low, next_high] = next.to_le_bytes();
+    let [first_low, first_high] = first.to_le_bytes();
+    let links = [next_low, next_high, first_low, first_high];
     same(part(s, 0, 4), &links)
 }
 
@@ -157,21 +140,10 @@ fn sound_data(s: &[u8], b: usize, size: usize) -> bool
         return false;
     }
     let next = link(size <= 254, b + 1);
-    let head = [(next % 256) as u8, (next / 256 % 256) as u8];
-    if !same(part(s, 0, 2), &head) {
+    if !same(part(s, 0, 2), &next.to_le_bytes()) {
         return false;
     }
     blank(part(part(s, 2, 254), size, 254))
-}
-
-// m less k, and 0 where k is more.
-fn less(m: usize, k: usize) -> usize
-    ensures { result ≡ m - k }
-{
-    if m < k {
-        return 0;
-    }
-    m - k
 }
 
 // Block 0 is that of an archive of 1 + n blocks.
@@ -190,16 +162,16 @@ fn sound_first(archive: &[u8], n: usize) -> bool
 
 // Reads the `left` blocks from block b on as entries: 13 where they are none.
 #[cycle(read_data_read_entries)]
-fn read_entries(archive: &[u8], b: usize, left: usize) -> u8
+fn read_entries(archive: &[u8], b: usize, left: usize) -> Result<(), Refusal>
     requires { b + left ≤ 4096 }
-    ensures { result ≡ number (entries_from left b (drop (256 * b) archive.now)) }
+    ensures { result ≡ whether (entries_from left b (drop (256 * b) archive.now)) }
 {
     if left == 0 {
-        return 0;
+        return Ok(());
     }
     let s = from_block(archive, b);
     if !sound_entry(s, b, left - 1) {
-        return NOT_ITS_RETURN;
+        return Err(Refusal::NotItsReturn);
     }
     let size = size_in(s) as usize;
     if size == 0 {
@@ -210,15 +182,15 @@ fn read_entries(archive: &[u8], b: usize, left: usize) -> u8
 
 // Reads them as data, of which `size` bytes are left, and then entries.
 #[cycle(read_data_read_entries)]
-fn read_data(archive: &[u8], b: usize, size: usize, left: usize) -> u8
+fn read_data(archive: &[u8], b: usize, size: usize, left: usize) -> Result<(), Refusal>
     requires { b + left ≤ 4096 }
-    ensures { result ≡ number (data_from left b size (drop (256 * b) archive.now)) }
+    ensures { result ≡ whether (data_from left b size (drop (256 * b) archive.now)) }
 {
     if left == 0 {
-        return NOT_ITS_RETURN;
+        return Err(Refusal::NotItsReturn);
     }
     if !sound_data(from_block(archive, b), b, size) {
-        return NOT_ITS_RETURN;
+        return Err(Refusal::NotItsReturn);
     }
     if size <= 254 {
         return read_entries(archive, b + 1, left - 1);
@@ -226,53 +198,20 @@ fn read_data(archive: &[u8], b: usize, size: usize, left: usize) -> u8
     read_data(archive, b + 1, size - 254, left - 1)
 }
 
-// Nothing is opened.
-fn not_opened(number: u8) -> Opened
-    ensures { result ≡ not_opened number }
-{
-    Opened {
-        refusal: number,
-        volume: 0,
-        first: 0,
-        blocks: 0,
-    }
-}
-
 // Opens an archive; refusal 13 for bytes that are the archive of no contents.
-pub fn open(archive: &[u8]) -> Opened
+pub fn open(archive: &[u8]) -> Result<Opened, Refusal>
     ensures { result ≡ opened_with (opened archive.now) }
 {
-    let n = less(archive.len() / 256, 1);
+    let n = (archive.len() / 256).saturating_sub(1);
     if !sound_first(archive, n) {
-        return not_opened(NOT_ITS_RETURN);
+        return Err(Refusal::NotItsReturn);
     }
-    let number = read_entries(archive, 1, n);
-    if number != 0 {
-        return not_opened(number);
-    }
-    Opened {
-        refusal: 0,
+    read_entries(archive, 1, n)?;
+    Ok(Opened {
         volume: byte_at(archive, 0),
         first: link(0 == n, 1),
         blocks: (1 + n) as u16,
-    }
-}
-
-// No entry: zeros, beside a refusal or 0.
-fn no_entry(number: u8) -> Entry
-    ensures { result ≡ no_entry number }
-{
-    Entry {
-        refusal: number,
-        found: 0,
-        next: 0,
-        first: 0,
-        kind: 0,
-        locked: 0,
-        name_length: 0,
-        count: 0,
-        size: 0,
-    }
+    })
 }
 
 // The fields of the entry block with which s begins.
@@ -280,8 +219,6 @@ fn fields_in(s: &[u8]) -> Entry
     ensures { result ≡ fields_in s.now }
 {
     Entry {
-        refusal: 0,
-        found: 1,
         next: word_at(s, 0),
         first: word_at(s, 2),
         kind: byte_at(s, 4),
@@ -296,26 +233,23 @@ fn fields_in(s: &[u8]) -> Entry
 fn is_entry(archive: &[u8], b: usize) -> bool
     ensures { result ≡ is_entry archive.now b }
 {
-    if b == 0 {
+    if b == 0 || 4096 <= b {
         return false;
     }
-    if 4096 <= b {
-        return false;
-    }
-    let n = less(archive.len() / 256, b + 1);
+    let n = (archive.len() / 256).saturating_sub(b + 1);
     sound_entry(from_block(archive, b), b, n)
 }
 
 // The entry in a block, that block alone being looked at; else the end. From the block that opening gives, and then from each that a step gives, these are
 // the entries of the archive that was opened.
-pub fn next_entry(archive: &[u8], block: u64) -> Entry
+pub fn next_entry(archive: &[u8], block: u64) -> Option<Entry>
     ensures { result ≡ entry_step archive.now block }
 {
     let b = block as usize;
     if is_entry(archive, b) {
-        return fields_in(from_block(archive, b));
+        return Some(fields_in(from_block(archive, b)));
     }
-    no_entry(0)
+    None
 }
 
 // The name in an entry block, as it is shown.
@@ -352,29 +286,26 @@ pub fn next_data(archive: &[u8], block: u64) -> u16
 }
 
 // The entry whose entry block is `block`, in an archive that was opened; else the end. The entries before it are passed over.
-fn find_entry(archive: &[u8], block: u64) -> Entry
-    requires { number (opened archive.now) ≡ 0 }
-    ensures { result ≡ entry_with (opened archive.now) block }
+fn find_entry(archive: &[u8], block: u64) -> Option<Entry>
+    requires { Opens archive.now }
+    ensures { Ok result ≡ entry_with (opened archive.now) block }
 {
     let blocks = (archive.len() / 256) as u64;
     let mut i: u64 = 1;
     while i < blocks {
-        let e = next_entry(archive, i);
+        let e = next_entry(archive, i)?;
         if i == block {
-            return e;
+            return Some(e);
         }
         i += 1 + (e.size as u64 + 253) / 254;
     }
-    no_entry(0)
+    None
 }
 
 // The entry whose entry block is `block`; any other block is the end. Refusal 13 for bytes that are the archive of no contents.
-pub fn entry_at(archive: &[u8], block: u64) -> Entry
+pub fn entry_at(archive: &[u8], block: u64) -> Result<Option<Entry>, Refusal>
     ensures { result ≡ entry_with (opened archive.now) block }
 {
-    let o = open(archive);
-    if o.refusal != 0 {
-        return no_entry(o.refusal);
-    }
-    find_entry(archive, block)
+    open(archive)?;
+    Ok(find_entry(archive, block))
 }

@@ -12,12 +12,19 @@
 //     09 KK KK JJ JJ    let them be 0
 #![tactic(auto)]
 
-use reader::Entry;
-use trial::{place, print, print_line, print_number, refusal_line};
+use outcome::Refusal;
+use reader::{Entry, Opened};
+use trial::{place, print, print_line, print_number, shown};
+
+// What is shown of bytes that are no archive.
+const NOT_OPENED: Opened = Opened {
+    volume: 0,
+    first: 0,
+    blocks: 0,
+};
 
 fn show_open(archive: &[u8]) {
-    let o = reader::open(archive);
-    refusal_line(b"open: refusal", o.refusal);
+    let o = shown(b"open: refusal", reader::open(archive), NOT_OPENED);
     print_number(b"  volume", o.volume as u64);
     print_number(b", first entry block", o.first as u64);
     print_line(b", blocks", o.blocks as u64);
@@ -31,16 +38,28 @@ fn fields_line(e: Entry) {
     print_line(b", data length", e.size as u64);
 }
 
-fn entry_lines(text: &[u8], e: Entry) {
-    refusal_line(text, e.refusal);
-    print_number(b"  found", e.found as u64);
+// What is shown where there is no entry.
+const NO_ENTRY: Entry = Entry {
+    next: 0,
+    first: 0,
+    kind: 0,
+    locked: 0,
+    name_length: 0,
+    count: 0,
+    size: 0,
+};
+
+fn entry_lines(text: &[u8], answer: Result<Option<Entry>, Refusal>) {
+    let found = shown(text, answer, None);
+    print_number(b"  found", u64::from(found.is_some()));
+    let e = found.unwrap_or(NO_ENTRY);
     print_number(b", next entry block", e.next as u64);
     print_line(b", first data block", e.first as u64);
     fields_line(e);
 }
 
 fn show_next(archive: &[u8], block: u16) {
-    entry_lines(b"block: refusal", cursor::entry_from(archive, block));
+    entry_lines(b"block: refusal", Ok(cursor::entry_from(archive, block)));
     print(b"  name ");
     print(reader::entry_name(archive, block as u64));
     print(b"\n");
@@ -66,15 +85,12 @@ fn show_data(archive: &[u8], block: u64, left: u64) {
 
 fn show_steps(archive: &[u8]) {
     let mut block = cursor::first_block(archive);
-    let mut count: u32 = 0;
-    while count < 5000 {
-        let e = cursor::entry_from(archive, block);
-        if e.found == 0 {
+    for count in 0..5000u32 {
+        let Some(e) = cursor::entry_from(archive, block) else {
             print_line(b"steps: entries", count as u64);
             return;
-        }
+        };
         block = e.next;
-        count += 1;
     }
     print(b"steps: no end\n");
 }
@@ -89,24 +105,14 @@ fn block_number(high: u8, low: u8) -> u16 {
 }
 
 fn chain(bytes: &mut [u8], from: u64, to: u64) {
-    let mut b = from;
-    while b < to {
-        if 65535 <= b {
-            return;
-        }
+    for b in from..to.min(65535) {
         lists::put_word(bytes, 256 * b as usize, (b + 1) as u16);
-        b += 1;
     }
 }
 
 fn names(bytes: &mut [u8], from: u64, to: u64, v: u8) {
-    let mut b = from;
-    while b < to {
-        if 65535 <= b {
-            return;
-        }
+    for b in from..to.min(65535) {
         lists::fill_at(bytes, 256 * b as usize + 42, 30, v);
-        b += 1;
     }
 }
 
@@ -138,26 +144,9 @@ fn act(bytes: &mut [u8], used: usize, step: [u8; 6]) -> usize {
     used
 }
 
-fn run(bytes: &mut [u8]) {
-    let mut used: usize = 0;
-    let mut left: u32 = 100000;
-    while left > 0 {
-        let s = trial::next_step();
-        if !s.more {
-            return;
-        }
-        let step = s.bytes;
-        used = act(bytes, used, step);
-        left -= 1;
-    }
-}
-
-// 4,097 blocks. What they hold is not promised, so that lending them costs no proof.
-fn blocks() -> [u8; 1048832] {
-    [0; 1048832]
-}
-
 fn main() {
-    let mut bytes = blocks();
-    run(&mut bytes);
+    // 4,097 blocks.
+    let mut bytes: [u8; 1048832] = trial::filled(0);
+    let mut used: usize = 0;
+    trial::run_script(|step| used = act(&mut bytes, used, step));
 }

@@ -12,8 +12,11 @@
 ghost use Rattle.std.specs.Prelude.{◌<◌};
 
 use lists::{byte_at, fill_at, part, word_at};
-use outcome::Handed;
-use trial::{hex, number, place, poke, print, print_decimals, print_hex, print_number, put_ramp};
+use outcome::Refusal;
+use trial::{
+    STDIN_FILENO, hex, number, place, poke, print, print_decimals, print_hex, print_number,
+    put_ramp,
+};
 
 // Bytes of the six digits.
 pub fn digits_of(line: &[u8]) -> [u8; 3] {
@@ -107,19 +110,17 @@ pub fn lay(line: &[u8], input: &mut [u8], used: usize) -> usize {
 }
 
 // The end of the line that starts at a place.
-pub fn line_end(script: &[u8], at: usize) -> usize {
-    let mut i: usize = at;
-    while i < script.len() {
-        if byte_at(script, i) == b'\n' {
+fn line_end(script: &[u8], at: usize) -> usize {
+    for i in at..script.len() {
+        if script[i] == b'\n' {
             return i;
         }
-        i += 1;
     }
     script.len()
 }
 
 // The line from a place to its end.
-pub fn line_from(script: &[u8], at: usize, end: usize) -> &[u8] {
+fn line_from(script: &[u8], at: usize, end: usize) -> &[u8] {
     if at < end {
         return part(script, at, end - at);
     }
@@ -127,11 +128,48 @@ pub fn line_from(script: &[u8], at: usize, end: usize) -> &[u8] {
 }
 
 // Where the next line starts.
-pub fn behind(script: &[u8], end: usize) -> usize {
+fn behind(script: &[u8], end: usize) -> usize {
     if end < script.len() {
         return end + 1;
     }
     script.len()
+}
+
+// Takes the lines of a script one by one, 10,000 at most.
+fn each_line<F: FnMut(&[u8])>(script: &[u8], mut act: F)
+    requires { F.IsAlwaysCallable act }
+{
+    let mut at: usize = 0;
+    for _line in 0..10000u32 {
+        if script.len() <= at {
+            return;
+        }
+        let end = line_end(script, at);
+        act(line_from(script, at, end));
+        at = behind(script, end);
+    }
+    print(b"too many lines\n");
+}
+
+// Those of the script on standard input, which has 65,535 bytes at most.
+pub fn run_script<F: FnMut(&[u8])>(act: F)
+    requires { F.IsAlwaysCallable act }
+{
+    let mut script = io::large_buffer();
+    let n = io::read_full(STDIN_FILENO, &mut script);
+    if n < 65536 {
+        each_line(part(&script, 0, n as usize), act);
+        return;
+    }
+    print(b"too long a script\n");
+}
+
+// The number of an answer's refusal, 0 for none.
+pub fn number_of<T>(answer: &Result<T, Refusal>) -> u64 {
+    match answer {
+        Ok(_) => 0,
+        Err(refusal) => u8::from(*refusal) as u64,
+    }
 }
 
 fn added(a: u32, b: u32) -> u32
@@ -148,11 +186,9 @@ fn joined(high: u32, low: u32) -> u64 {
 fn adler(bytes: &[u8]) -> u64 {
     let mut a: u32 = 1;
     let mut b: u32 = 0;
-    let mut i: usize = 0;
-    while i < bytes.len() {
-        a = added(a, byte_at(bytes, i) as u32);
+    for byte in bytes {
+        a = added(a, *byte as u32);
         b = added(b, a);
-        i += 1;
     }
     joined(b, a)
 }
@@ -169,10 +205,10 @@ pub fn content(bytes: &[u8]) {
 }
 
 // The number of an answer, and what was handed over.
-pub fn answer_line(h: Handed, space: &[u8]) {
-    print_number(b"  number", h.refusal as u64);
-    if h.refusal == 0 {
-        content(part(space, 0, h.length));
+pub fn answer_line(answer: Result<usize, Refusal>, space: &[u8]) {
+    print_number(b"  number", number_of(&answer));
+    if let Ok(length) = answer {
+        content(part(space, 0, length));
     }
     print(b"\n");
 }

@@ -10,9 +10,9 @@ use lib.Dec.{eqb, leb}
 use borrow.Author.Tests.{leb-true}
 use Rattle.lists.specs.Select.{all, among}
 use Rattle.lists.specs.Words.{word_at}
-use Rattle.outcome.specs.declared.Handed.{Handed}
+use Rattle.std.specs.Prelude.{Ok}
 use Rattle.outcome.specs.declared.Refusal.TheVariants.{UnwritableName, PageFull}
-use Rattle.outcome.specs.Outcome.{given, require, ◌>>◌, Hands}
+use Rattle.outcome.specs.Outcome.{require, ◌>>◌, Hands}
 use Rattle.outcome.proofs.Outcome.{hands_given, then_gives, required, met}
 use Rattle.disk.specs.declared.Place.{Place}
 use Rattle.disk.specs.Disk.{place, bytes_of}
@@ -25,19 +25,19 @@ use Rattle.records.proofs.Back.{entry_same, page_back}
 
 -- ---- an entry
 module _ (p : Place) (kind : ℕ) (locked : Bool) (s : List ℕ) (count : ℕ) where
-  entry_given : (w : List ℕ) → entry_written p kind locked s count ≡ given w → (writable s ≡ true) × (entry_record p kind locked s count ≡ w)
+  entry_given : (w : List ℕ) → entry_written p kind locked s count ≡ Ok w → (writable s ≡ true) × (entry_record p kind locked s count ≡ w)
   unfolding entry_written
   entry_given w e =
-      let m = met (writable s) UnwritableName (given (entry_record p kind locked s count)) e in
+      let m = met (writable s) UnwritableName (Ok (entry_record p kind locked s count)) e in
       let q : entry_record p kind locked s count ≡ w = cc m.1 in
       (m.0, q)
 
   -- its 35 bytes, as the call left them, stand in d from x on
-  pub written_entry : (before after : List ℕ) (r : Handed) → Hands (entry_written p kind locked s count) before after r → r.refusal ≡ 0
+  pub written_entry : (before after : List ℕ) (m : ℕ) → Hands (entry_written p kind locked s count) before after (Ok m)
       → (d : List ℕ) (x : ℕ) → take 35 (drop x d) ≡ take 35 after
       → count < 65536 → among 0 s ≡ false → trimmed s ≡ s → ReadsAs (entry_from d x) p kind locked s count
-  written_entry before after r h z d x on c f t =
-      let g = hands_given h z in
+  written_entry before after m h d x on c f t =
+      let g = hands_given m h refl in
       let e = entry_given g.0 g.1 in
       let l : length g.0 ≡ 35 = rw (← e.1) (length_record p kind locked s count) in
       let a : take 35 after ≡ entry_record p kind locked s count = rw g.3 (take_at g.0 _ 35 l ∙ sym e.1) in
@@ -45,25 +45,25 @@ module _ (p : Place) (kind : ℕ) (locked : Bool) (s : List ℕ) (count : ℕ) w
 
 -- ---- a page
 module _ (header s : List ℕ) where
-  page_given : (w : List ℕ) → page_written header s ≡ given w
+  page_given : (w : List ℕ) → page_written header s ≡ Ok w
       → ((entry_count s ≤ 7) × (writables s (entry_count s) ≡ true)) × (page_record header s (entry_count s) ≡ w)
   unfolding page_written
   page_given w e =
       let few = require (leb (entry_count s) 7) PageFull in
       let named = require (writables s (entry_count s)) UnwritableName in
-      let m = then_gives (few >> named) (given (page_record header s (entry_count s))) w e in
+      let m = then_gives (few >> named) (Ok (page_record header s (entry_count s))) w e in
       let k = then_gives few named tt m.0 in
       let q : page_record header s (entry_count s) ≡ w = cc m.1 in
       ((leb-true (entry_count s) 7 (required _ PageFull k.0), required _ UnwritableName k.1), q)
 
   -- its 256 bytes, as the call left them, are the sector of d at p: entry i is read as it was written
-  pub written_page : (before after : List ℕ) (r : Handed) → Hands (page_written header s) before after r → r.refusal ≡ 0
+  pub written_page : (before after : List ℕ) (k : ℕ) → Hands (page_written header s) before after (Ok k)
       → (n : ℕ) (d : List ℕ) (p : Place) → bytes_of n d p ≡ take 256 after → (i : ℕ) → i < entry_count s
       → word_at s (37 * i + 35) < 65536 → among 0 (name_at s i) ≡ false → trimmed (name_at s i) ≡ name_at s i
       → ReadsAs (entry_at n d p i) (place (get_or s (37 * i) 0) (get_or s (37 * i + 1) 0)) (get_or s (37 * i + 2) 0) (not (eqb (get_or s (37 * i + 3) 0) 0))
       (name_at s i) (word_at s (37 * i + 35))
-  written_page before after r h z n d p on i b c f t =
-      let g = hands_given h z in
+  written_page before after k h n d p on i b c f t =
+      let g = hands_given k h refl in
       let e = page_given g.0 g.1 in
       let m = entry_count s in
       let l : length g.0 ≡ 256 = rw (← e.1) (length_page header s m e.0.0) in

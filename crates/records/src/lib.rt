@@ -6,54 +6,33 @@ ghost use Rattle.lists.specs.Fill.{cats, put};
 ghost use Rattle.lists.specs.Words.{le2};
 ghost use Rattle.outcome.specs.Outcome.{Hands};
 ghost use Rattle.records.specs.Records.{low_bytes, writable, type_byte, name_field, entry_record, entry_written, name_at, record_at, writables, page_record, page_written, file_written};
-ghost use Rattle.records.specs.Formats.{recognized, format_of};
+ghost use Rattle.records.specs.Formats.{recognized};
 
 use catalog::file_type;
 use disk::{Place, Sector, Track};
 use lists::{byte_at, copy_at, part, same, word_at};
-use outcome::{
-    CUT_SHORT, Handed, NOT_BINARY, PAGE_FULL, TRAY_SHORT, UNWRITABLE_NAME, accepted, refused,
-};
-
-// What the recogniser answers: its refusal's number, 0 for none, and whether the data is a DOS 3.3 disk.
-#[derive(Clone, Copy)]
-pub struct Format {
-    pub refusal: u8,
-    pub dos33: bool,
-}
+use outcome::Refusal;
 
 // A number as two bytes, low byte first.
 pub fn little_endian_word_to_bytes(word: u16) -> [u8; 2]
     ensures { result ≡ le2 word }
 {
-    [(word % 256) as u8, (word / 256 % 256) as u8]
+    word.to_le_bytes()
 }
 
 // Each byte is below 80h.
 fn low_bytes(name: &[u8]) -> bool
     ensures { result ≡ low_bytes name.now }
 {
-    let mut k: usize = 0;
-    while k < name.len() {
-        if 128 <= name[k] {
-            return false;
-        }
-        k += 1;
-    }
-    true
+    name.iter().all(|b| *b < 128)
 }
 
 // A name that can be written.
+#[tactic(auto, unfolding(crate::specs::Records::writable))]
 pub fn writable_name(name: &[u8]) -> bool
     ensures { result ≡ writable name.now }
 {
-    if name.len() == 0 {
-        return false;
-    }
-    if 30 < name.len() {
-        return false;
-    }
-    low_bytes(name)
+    !name.is_empty() && name.len() <= 30 && low_bytes(name)
 }
 
 // The type byte.
@@ -61,10 +40,7 @@ fn type_byte(kind: u8, locked: bool) -> u8
     ensures { result ≡ type_byte kind locked }
 {
     let code = file_type(kind);
-    if locked {
-        return code + 128;
-    }
-    code
+    if locked { code + 128 } else { code }
 }
 
 // The 30 name bytes.
@@ -73,10 +49,8 @@ fn name_field(name: &[u8]) -> [u8; 30]
     ensures { result ≡ name_field name.now }
 {
     let mut field = [0xA0u8; 30];
-    let mut k: usize = 0;
-    while k < name.len() {
+    for k in 0..name.len() {
         field[k] = name[k] + 128;
-        k += 1;
     }
     field
 }
@@ -104,18 +78,18 @@ pub fn file_entry_as_vec(
     name: &[u8],
     count: u16,
     out: &mut [u8],
-) -> Handed
+) -> Result<usize, Refusal>
     ensures { Hands (entry_written list kind locked name.now count) out.old out.new result }
 {
     if !writable_name(name) {
-        return refused(UNWRITABLE_NAME);
+        return Err(Refusal::UnwritableName);
     }
     if out.len() < 35 {
-        return refused(TRAY_SHORT);
+        return Err(Refusal::TrayShort);
     }
     let record = entry_record(list, kind, locked, name, count);
     copy_at(&record, out, 0);
-    accepted(35)
+    Ok(35)
 }
 
 // The name of entry i of those in 37 bytes each.
@@ -180,70 +154,63 @@ fn page_record(header: &[u8], entries: &[u8], n: usize) -> [u8; 256]
 }
 
 // Catalog::as_vec: the 256 bytes of a page with the entries that `entries` holds in 37 bytes each; refusals 16, 14, 12.
-pub fn catalog_as_vec(header: &[u8], entries: &[u8], out: &mut [u8]) -> Handed
+pub fn catalog_as_vec(header: &[u8], entries: &[u8], out: &mut [u8]) -> Result<usize, Refusal>
     ensures { Hands (page_written header.now entries.now) out.old out.new result }
 {
     let n = entries.len() / 37;
     if 7 < n {
-        return refused(PAGE_FULL);
+        return Err(Refusal::PageFull);
     }
     if !writable_entries(entries, n) {
-        return refused(UNWRITABLE_NAME);
+        return Err(Refusal::UnwritableName);
     }
     if out.len() < 256 {
-        return refused(TRAY_SHORT);
+        return Err(Refusal::TrayShort);
     }
     let page = page_record(header, entries, n);
     copy_at(&page, out, 0);
-    accepted(256)
+    Ok(256)
 }
 
 // FullFile::as_vec: the bytes of a Binary file, with its address and its size as given in front; refusals 15, 12.
-pub fn full_file_as_vec(kind: u8, address: u16, size: u16, data: &[u8], out: &mut [u8]) -> Handed
+pub fn full_file_as_vec(
+    kind: u8,
+    address: u16,
+    size: u16,
+    data: &[u8],
+    out: &mut [u8],
+) -> Result<usize, Refusal>
     ensures { Hands (file_written kind address size «data».now) out.old out.new result }
 {
     if kind != 4 {
-        return refused(NOT_BINARY);
+        return Err(Refusal::NotBinary);
     }
     let need = 4 + data.len();
     if out.len() < need {
-        return refused(TRAY_SHORT);
+        return Err(Refusal::TrayShort);
     }
     let start = little_endian_word_to_bytes(address);
     let count = little_endian_word_to_bytes(size);
     copy_at(&start, out, 0);
     copy_at(&count, out, 2);
     copy_at(data, out, 4);
-    accepted(need)
-}
-
-// No DOS 3.3 disk: with a refusal's number, or with 0.
-fn no_format(number: u8) -> Format
-    ensures { result ≡ record { refusal = number; dos33 = false } }
-{
-    Format {
-        refusal: number,
-        dos33: false,
-    }
+    Ok(need)
 }
 
 // Whether the data is a DOS 3.3 disk: bytes 0 to 8 and bytes 69,633 to 69,635 are looked at; refusal 17.
-pub fn format_from_data(data: &[u8]) -> Format
-    ensures { result ≡ format_of (recognized «data».now) }
+#[tactic(auto, unfolding(crate::specs::Formats::recognized, crate::specs::Formats::marked))]
+pub fn format_from_data(data: &[u8]) -> Result<bool, Refusal>
+    ensures { result ≡ recognized «data».now }
 {
     if data.len() < 9 {
-        return no_format(CUT_SHORT);
+        return Err(Refusal::CutShort);
     }
     if !same(part(data, 0, 9), b"\x01\xA5\x27\xC9\x09\xD0\x18\xA5\x2B") {
-        return no_format(0);
+        return Ok(false);
     }
     if data.len() < 69636 {
-        return no_format(CUT_SHORT);
+        return Err(Refusal::CutShort);
     }
     let marks = [17, 15, 3];
-    let found = same(part(data, 69633, 3), &marks);
-    Format {
-        refusal: 0,
-        dos33: found,
-    }
+    Ok(same(part(data, 69633, 3), &marks))
 }

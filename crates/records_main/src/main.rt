@@ -9,20 +9,12 @@
 
 use disk::{Place, Sector, Track};
 use lists::{byte_at, part, word_at};
-use outcome::Handed;
-use trial::{handed_line, number, place, print, print_line};
+use outcome::Refusal;
+use trial::{number, place, print, print_hex, shown};
 
 // The first 256 bytes that were handed over, and the byte behind all of them.
-fn handed_lines(text: &[u8], h: Handed, space: &[u8]) {
-    handed_line(text, h);
-    if trial::untouched(space) {
-        print(b"  nothing changed\n");
-        return;
-    }
-    print(b"  bytes");
-    trial::print_hex(part(part(space, 0, h.length), 0, 256));
-    print(b"\n");
-    print_line(b"  behind", byte_at(space, h.length) as u64);
+fn handed_lines(text: &[u8], answer: Result<usize, Refusal>, space: &[u8]) {
+    trial::handed_lines(text, answer, space, |bytes| print_hex(part(bytes, 0, 256)));
 }
 
 fn show_entry(input: &[u8], space: &mut [u8], n: u8) {
@@ -34,28 +26,27 @@ fn show_entry(input: &[u8], space: &mut [u8], n: u8) {
     let lock = byte_at(input, 3);
     let count = word_at(input, 4);
     let name = part(input, 16, n as usize);
-    let h = records::file_entry_as_vec(list, kind, lock != 0, name, count, space);
-    handed_lines(b"entry: refusal", h, space);
+    let answer = records::file_entry_as_vec(list, kind, lock != 0, name, count, space);
+    handed_lines(b"entry: refusal", answer, space);
 }
 
 fn show_page(input: &[u8], space: &mut [u8], n: usize) {
     let header = part(input, 0, byte_at(input, 15) as usize);
-    let h = records::catalog_as_vec(header, part(input, 16, n), space);
-    handed_lines(b"page: refusal", h, space);
+    let answer = records::catalog_as_vec(header, part(input, 16, n), space);
+    handed_lines(b"page: refusal", answer, space);
 }
 
 fn show_file(input: &[u8], space: &mut [u8], n: usize) {
     let kind = byte_at(input, 0);
     let address = word_at(input, 1);
     let size = word_at(input, 3);
-    let h = records::full_file_as_vec(kind, address, size, part(input, 16, n), space);
-    handed_lines(b"file: refusal", h, space);
+    let answer = records::full_file_as_vec(kind, address, size, part(input, 16, n), space);
+    handed_lines(b"file: refusal", answer, space);
 }
 
 fn show_format(input: &[u8], n: usize) {
-    let f = records::format_from_data(part(input, 0, n));
-    trial::refusal_line(b"format: refusal", f.refusal);
-    if f.dos33 {
+    let format = records::format_from_data(part(input, 0, n));
+    if shown(b"format: refusal", format, false) {
         print(b"  DOS 3.3\n");
         return;
     }
@@ -89,25 +80,8 @@ fn act(input: &mut [u8], step: [u8; 6]) {
     }
 }
 
-fn run(input: &mut [u8]) {
-    let mut left: u32 = 100000;
-    while left > 0 {
-        let s = trial::next_step();
-        if !s.more {
-            return;
-        }
-        let step = s.bytes;
-        act(input, step);
-        left -= 1;
-    }
-}
-
-// One byte more than `format_from_data` looks at, and some. What it holds is not promised, so that lending it costs no proof.
-fn zeros() -> [u8; 69700] {
-    [0; 69700]
-}
-
 fn main() {
-    let mut input = zeros();
-    run(&mut input);
+    // One byte more than `format_from_data` looks at, and some.
+    let mut input: [u8; 69700] = trial::filled(0);
+    trial::run_script(|step| act(&mut input, step));
 }

@@ -5,8 +5,9 @@
 
 use disk::VolumeTableOfContents;
 use lists::{byte_at, part};
-use recorded::{answer_line, asks, behind, entry_lines, lay, line_end, line_from, name_of};
-use trial::{STDIN_FILENO, print, print_decimals, print_hex, print_line};
+use outcome::Refusal;
+use recorded::{answer_line, asks, entry_lines, lay, name_of, number_of};
+use trial::{print, print_decimals, print_hex, print_line};
 
 // The direction as the byte of the disk; 128 for what is none.
 fn direction_byte(n: i8) -> u8 {
@@ -42,8 +43,8 @@ fn file_lines(disk: &[u8], entry: &[u8], space: &mut [u8]) {
     print(b"file");
     print_hex(name);
     print(b"\n");
-    let h = files::fetch(disk, name, space);
-    answer_line(h, space);
+    let answer = files::fetch(disk, name, space);
+    answer_line(answer, space);
 }
 
 fn all_file_lines(disk: &[u8], entries: &[u8], space: &mut [u8]) {
@@ -52,17 +53,27 @@ fn all_file_lines(disk: &[u8], entries: &[u8], space: &mut [u8]) {
     }
 }
 
-fn show_load(disk: &[u8], entries: &mut [u8], space: &mut [u8]) {
-    let h = files::file(disk, 0, space);
-    print_line(b"load", h.refusal as u64);
-    if h.refusal != 0 {
-        return;
+// The table of a disk whose first file can be read.
+fn load(disk: &[u8], space: &mut [u8]) -> Result<VolumeTableOfContents, Refusal> {
+    files::file(disk, 0, space)?;
+    disk::parse_volume_table_of_contents(disk)
+}
+
+fn listing_lines(disk: &[u8], entries: &mut [u8], space: &mut [u8]) {
+    if let Ok(listing) = catalog::parse_catalogs(disk, entries) {
+        let found = part(entries, 0, listing.length);
+        entry_lines(found);
+        all_file_lines(disk, found, space);
     }
-    table_line(disk::parse_volume_table_of_contents(disk));
-    let listing = catalog::parse_catalogs(disk, entries);
-    let found = part(entries, 0, listing.handed.length);
-    entry_lines(found);
-    all_file_lines(disk, found, space);
+}
+
+fn show_load(disk: &[u8], entries: &mut [u8], space: &mut [u8]) {
+    let answer = load(disk, space);
+    print_line(b"load", number_of(&answer));
+    if let Ok(table) = answer {
+        table_line(table);
+        listing_lines(disk, entries, space);
+    }
 }
 
 // How many bytes are in use after a step, `used` being those before it.
@@ -77,41 +88,11 @@ fn act(line: &[u8], input: &mut [u8], used: usize, entries: &mut [u8], space: &m
     lay(line, input, used)
 }
 
-fn run(script: &[u8], input: &mut [u8], entries: &mut [u8], space: &mut [u8]) {
-    let mut at: usize = 0;
-    let mut used: usize = 0;
-    let mut left: u32 = 10000;
-    while left > 0 {
-        if script.len() <= at {
-            return;
-        }
-        let end = line_end(script, at);
-        used = act(line_from(script, at, end), input, used, entries, space);
-        at = behind(script, end);
-        left -= 1;
-    }
-    print(b"too many lines\n");
-}
-
-// Space for 1,000 entries. What it holds is not promised, so that lending it costs no proof.
-fn room() -> [u8; 37000] {
-    [0; 37000]
-}
-
 fn main() {
-    let mut script = io::large_buffer();
     let mut input = trial::disk();
-    let mut entries = room();
+    // Space for 1,000 entries.
+    let mut entries: [u8; 37000] = trial::filled(0);
     let mut space = trial::disk();
-    let n = io::read_full(STDIN_FILENO, &mut script);
-    if n < 65536 {
-        run(
-            part(&script, 0, n as usize),
-            &mut input,
-            &mut entries,
-            &mut space,
-        );
-        return;
-    }
-    print(b"too long a script\n");
+    let mut used: usize = 0;
+    recorded::run_script(|line| used = act(line, &mut input, used, &mut entries, &mut space));
 }

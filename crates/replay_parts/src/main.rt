@@ -11,24 +11,22 @@
 
 use disk::{Place, Sector, Track};
 use lists::{byte_at, part, word_at};
-use recorded::{
-    answer_line, asks, behind, bytes_of, content, count, digits_of, lay, line_end, line_from,
-    place_of,
-};
-use trial::{STDIN_FILENO, print, print_hex, print_line, print_number};
+use outcome::Refusal;
+use recorded::{answer_line, asks, bytes_of, content, count, digits_of, lay, number_of, place_of};
+use trial::{print, print_hex, print_line, print_number};
 
 fn show_sector(nibbles: &[u8], key: [u8; 3], space: &mut [u8]) {
     print(b"sector");
     print_hex(&key);
     print(b"\n");
-    let h = stream::sector(nibbles, key[0], key[1], key[2], space);
-    answer_line(h, space);
+    let answer = stream::sector(nibbles, key[0], key[1], key[2], space);
+    answer_line(answer, space);
 }
 
 fn show_nibbles(sector: &[u8], space: &mut [u8]) {
-    let h = nibble::encode_sector(sector, space);
-    print_number(b"encoded: number", h.refusal as u64);
-    if h.refusal == 0 {
+    let answer = nibble::encode_sector(sector, space);
+    print_number(b"encoded: number", number_of(&answer));
+    if answer.is_ok() {
         content(part(space, 0, 342));
     }
     print(b"\n");
@@ -42,33 +40,34 @@ fn show_record(place: [u8; 3], words: &[u8], space: &mut [u8]) {
     let lock = byte_at(words, 0);
     let name = part(words, 3, words.len());
     print(b"record\n");
-    let h = records::file_entry_as_vec(list, place[2], lock != 0, name, word_at(words, 1), space);
-    answer_line(h, space);
+    let count = word_at(words, 1);
+    let answer = records::file_entry_as_vec(list, place[2], lock != 0, name, count, space);
+    answer_line(answer, space);
 }
 
 fn show_page(input: &[u8], space: &mut [u8]) {
     print(b"page\n");
-    let h = records::catalog_as_vec(part(input, 0, 11), part(input, 11, input.len()), space);
-    answer_line(h, space);
+    let answer = records::catalog_as_vec(part(input, 0, 11), part(input, 11, input.len()), space);
+    answer_line(answer, space);
 }
 
 fn show_binary(input: &[u8], space: &mut [u8]) {
     let data = part(input, 5, input.len());
     print(b"binary\n");
-    let h = records::full_file_as_vec(
+    let answer = records::full_file_as_vec(
         byte_at(input, 0),
         word_at(input, 1),
         word_at(input, 3),
         data,
         space,
     );
-    answer_line(h, space);
+    answer_line(answer, space);
 }
 
 fn show_format(input: &[u8]) {
-    let f = records::format_from_data(input);
-    print_number(b"format: number", f.refusal as u64);
-    if f.dos33 {
+    let format = records::format_from_data(input);
+    print_number(b"format: number", number_of(&format));
+    if format.unwrap_or(false) {
         print(b", DOS 3.3\n");
         return;
     }
@@ -108,30 +107,9 @@ fn act(line: &[u8], input: &mut [u8], used: usize, space: &mut [u8]) -> usize {
     lay(line, input, used)
 }
 
-fn run(script: &[u8], input: &mut [u8], space: &mut [u8]) {
-    let mut at: usize = 0;
-    let mut used: usize = 0;
-    let mut left: u32 = 10000;
-    while left > 0 {
-        if script.len() <= at {
-            return;
-        }
-        let end = line_end(script, at);
-        used = act(line_from(script, at, end), input, used, space);
-        at = behind(script, end);
-        left -= 1;
-    }
-    print(b"too many lines\n");
-}
-
 fn main() {
-    let mut script = io::large_buffer();
     let mut input = trial::disk();
     let mut space = trial::disk();
-    let n = io::read_full(STDIN_FILENO, &mut script);
-    if n < 65536 {
-        run(part(&script, 0, n as usize), &mut input, &mut space);
-        return;
-    }
-    print(b"too long a script\n");
+    let mut used: usize = 0;
+    recorded::run_script(|line| used = act(line, &mut input, used, &mut space));
 }

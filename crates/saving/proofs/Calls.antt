@@ -11,15 +11,16 @@ use borrow.Author.Tests.{lt-leb, le-leb, lt-ltb, le-ltb, not-true, not-false}
 use borrow.Author.Rules.{rules}
 use Rattle.lists.specs.Fill.{put, placed, padded}
 use Rattle.lists.specs.Select.{all, any}
-use Rattle.lists.proofs.Split.{by_test, by_lt, both_true}
+use Rattle.lists.proofs.Split.{by_lt, both_true}
 use Rattle.lists.proofs.Put.{placed_put}
 use Rattle.lists.proofs.Every.{every_imp}
+use Rattle.std.specs.Prelude as rust
+use Rattle.std.specs.Prelude.{Ok, Err, Some, None, is_some, unwrap_or}
 use Rattle.outcome.specs.declared.Refusal.{Refusal}
 use Rattle.outcome.specs.declared.Refusal.TheVariants.{UnwritableName, NotOnRoll, NameTaken, NoSpace, OtherSide, OverLimit}
-use Rattle.outcome.specs.Refusal.{code}
-use Rattle.outcome.specs.Outcome.{Outcome, refused, given, ◌>>=◌, ◌>>◌, require, number, Hands}
-use Rattle.outcome.specs.declared.Handed.{Handed}
-use Rattle.outcome.proofs.Outcome.{gives, refused_given, number_0}
+use Rattle.outcome.specs.Outcome.{Outcome, ◌>>=◌, ◌>>◌, require, Hands}
+use Rattle.outcome.proofs.Outcome.{gives, refused_given, some_none}
+use Rattle.outcome.proofs.Silent.{silent}
 use Rattle.disk.specs.declared.Place.{Place}
 use Rattle.disk.specs.Disk.{place, start, bytes_of, on_disk}
 use Rattle.disk.specs.Vtoc.{vtoc}
@@ -28,6 +29,7 @@ use Rattle.files.specs.Contents.{Contents, list_walk, lists, pairs_of, place_byt
 use Rattle.records.specs.Records.{entry_record, entry_written}
 use Rattle.records.proofs.Entries.{length_record}
 use Rattle.holders.specs.Holders.{with_pairs}
+use Rattle.holders.proofs.Tallies.{silent_given}
 use Rattle.holders.proofs.Refusals.{contents_with, sectors_given, sectors_on}
 use Rattle.amend.specs.Lines.{first_of, last_of, in_use, savable, starts, line_of, open_line, tidy, present, holds_name}
 use Rattle.amend.specs.Search.{freed}
@@ -52,36 +54,36 @@ use Rattle.filing.proofs.Filed.{filed_long, filed_written, first_place_lem}
 use Rattle.saving.specs.declared.Sight.{Sight}
 use Rattle.saving.specs.Saving.{Amended}
 use Rattle.saving.specs.declared.Asker.{Asker}
-use Rattle.saving.specs.Askers.{no_side, one_side, may_name, over_limit, room_for, name_allowed, saved_by, deleted_by}
-use Rattle.saving.specs.Steps.{is_some, start_or0, bears, idle, sight_of, Seen, Paged, frees, Linked, ListsFreed, Copied, Erasable, Erased, Seated, Storable, EntryPut, FilePut}
+use Rattle.saving.specs.Askers.{Caller, no_side, one_side, may_name, over_limit, room_for, name_allowed, saved_by, deleted_by}
+use Rattle.saving.specs.Steps.{found_line, bears, idle, sight_of, Seen, Paged, frees, Linked, ListsFreed, Copied, Erasable, Erased, Seated, Storable, EntryPut, FilePut}
 use Rattle.saving.proofs.Freeing.{length_frees, vtoc_long, copy_is, copy_freed}
 
 -- not over is within
 leb_ltb : (a b : ℕ) → leb a b ≡ not (ltb b a)
 leb_ltb a b = by_lt b a (λ h. rw (lt-leb a b h, lt-ltb b a h) refl) (λ h. rw (le-leb a b h, le-ltb b a h) refl)
 
--- an option that is there, and one that is not
-some_of : (o : Option ℕ) (x : ℕ) → x ≡ start_or0 o → is_some o ≡ true → o ≡ some x
-some_of none x e h = absurd (let z : ◌≡◌ {A = ℕ} 0 1 = cc in omega arith)
-some_of (some y) x e h = ap some (sym e)
+-- a line that was found, and one that was not
+some_of : (o : Option ℕ) (x : ℕ) → found_line o ≡ Some x → o ≡ some x
+some_of none x e = absurd (some_none (sym e))
+some_of (some y) x e = ap (λ o. some (unwrap_or o 0)) e
 
-none_of : (o : Option ℕ) → is_some o ≡ false → o ≡ none
-none_of none h = refl
-none_of (some y) h = absurd (let z : ◌≡◌ {A = ℕ} 0 1 = cc in omega arith)
+none_of : (o : Option ℕ) → found_line o ≡ None → o ≡ none
+none_of none e = refl
+none_of (some y) e = absurd (some_none e)
 
 -- a call that is refused leaves the disk
-refuses : {o : Outcome (List ℕ)} (d : List ℕ) (r : Refusal) → o ≡ refused r → Amended o d d (code r)
-refuses d r e = record { is = sym (ap number e); disk = sym (ap (kept d) e) }
+refuses : {o : Outcome (List ℕ)} (d : List ℕ) (r : Refusal) → o ≡ Err r → Amended o d d (Err r)
+refuses d r e = record { is = sym (ap silent e); disk = sym (ap (kept d) e) }
 
 -- .. and one that is not leaves what it gives
-accepts : {o : Outcome (List ℕ)} (d e : List ℕ) → o ≡ given e → Amended o d e 0
-accepts d e q = record { is = sym (ap number q); disk = sym (ap (kept d) q) }
+accepts : {o : Outcome (List ℕ)} (d e : List ℕ) → o ≡ Ok e → Amended o d e (Ok tt)
+accepts d e q = record { is = sym (ap silent q); disk = sym (ap (kept d) q) }
 
-same_call : {o p : Outcome (List ℕ)} {d after : List ℕ} {r : ℕ} → o ≡ p → Amended p d after r → Amended o d after r
-same_call {o} {p} {d} e a = record { is = a.is ∙ sym (ap number e); disk = a.disk ∙ sym (ap (kept d) e) }
+same_call : {o p : Outcome (List ℕ)} {d after : List ℕ} {r : Outcome (Unit {0})} → o ≡ p → Amended p d after r → Amended o d after r
+same_call {o} {p} {d} e a = record { is = a.is ∙ sym (ap silent e); disk = a.disk ∙ sym (ap (kept d) e) }
 
 -- ---- a disk that is read, and is clean
-module _ (d : List ℕ) (c : Contents) (h : tidy 16 d ≡ given c) where
+module _ (d : List ℕ) (c : Contents) (h : tidy 16 d ≡ Ok c) where
   reading : Reading 16 d
   reading = (tidy_reading 16 d c h).0
 
@@ -92,79 +94,80 @@ module _ (d : List ℕ) (c : Contents) (h : tidy 16 d ≡ given c) where
   tidy_pages = record { places = reading.ps; is = reading.paged }
 
 -- ---- what both calls begin with
-module _ (d : List ℕ) (a : Asker) (name : List ℕ) where
-  pub allow_refused : (n : ℕ) → n ≡ number (tidy 16 d) → (n ≡ 0 → ⊥) → n ≡ number (name_allowed 16 d a name)
+module _ (d : List ℕ) (a : Caller) (name : List ℕ) where
+  pub allow_refused : (v : Outcome (Unit {0})) (e : Refusal) → v ≡ Err e → Err e ≡ silent (tidy 16 d) → v ≡ silent (name_allowed 16 d a name)
   unfolding name_allowed
-  allow_refused n e h = go _ (tidy 16 d) e
+  allow_refused v e z h = z ∙ go _ (tidy 16 d) h
     where
-      go : (f : Contents → Outcome Contents) (o : Outcome Contents) → n ≡ number o → n ≡ number (o >>= f)
-      go f (refused r) q = q
-      go f (given c) q = absurd (h q)
+      go : (f : Contents → Outcome Contents) (o : Outcome Contents) → Err e ≡ silent o → Err e ≡ silent (o >>= f)
+      go f (Err r) q = q
+      go f (Ok c) q = absurd (refused_given q)
 
-  allowed_from : (c : Contents) → tidy 16 d ≡ given c → name_allowed 16 d a name ≡ (require (savable name) UnwritableName >> require (may_name a name) OtherSide >> given c)
+  allowed_from : (c : Contents) → tidy 16 d ≡ Ok c → name_allowed 16 d a name ≡ (require (savable name) UnwritableName >> require (may_name a name) OtherSide >> Ok c)
   unfolding name_allowed
   allowed_from c h = rw h refl
 
   -- the two tests, and what they come to
   abbrev tests : Contents → (w v : Bool) → Outcome Contents
-  tests c w v = require w UnwritableName >> require v OtherSide >> given c
+  tests c w v = require w UnwritableName >> require v OtherSide >> Ok c
 
-  module _ (n : ℕ) (e : n ≡ number (tidy 16 d)) (z : n ≡ 0) where
-    allowed_is : (w v : Bool) → savable name ≡ w → may_name a name ≡ v → (c : Contents) × (number (name_allowed 16 d a name) ≡ number (tests c w v))
+  module _ (e : Ok tt ≡ silent (tidy 16 d)) where
+    allowed_is : (w v : Bool) → savable name ≡ w → may_name a name ≡ v → (c : Contents) × (silent (name_allowed 16 d a name) ≡ silent (tests c w v))
     allowed_is w v f g =
-        let t = number_0 (tidy 16 d) (sym e ∙ z) in
-        (t.0, ap number (allowed_from t.0 t.1) ∙ (λ i. number (tests t.0 (f i) (g i))))
+        let t = silent_given (tidy 16 d) (sym e) in
+        (t.0, ap silent (allowed_from t.0 t.1) ∙ (λ i. silent (tests t.0 (f i) (g i))))
 
     module _ (w : Bool) (f : w ≡ savable name) where
-      pub allow_unwritable : w ≡ false → 14 ≡ number (name_allowed 16 d a name)
+      pub allow_unwritable : w ≡ false → Err UnwritableName ≡ silent (name_allowed 16 d a name)
       allow_unwritable h = sym (allowed_is false (may_name a name) (sym f ∙ h) refl).1
 
       module _ (y : w ≡ true) (v : Bool) (g : v ≡ may_name a name) where
-        pub allow_other : v ≡ false → 23 ≡ number (name_allowed 16 d a name)
+        pub allow_other : v ≡ false → Err OtherSide ≡ silent (name_allowed 16 d a name)
         allow_other h = sym (allowed_is true false (sym f ∙ y) (sym g ∙ h)).1
 
-        pub allow_all : v ≡ true → 0 ≡ number (name_allowed 16 d a name)
+        pub allow_all : v ≡ true → Ok tt ≡ silent (name_allowed 16 d a name)
         allow_all h = sym (allowed_is true true (sym f ∙ y) (sym g ∙ h)).1
 
   -- where nothing is refused, the disk is tidy and the name allowed
-  allowed_parts : (c : Contents) → name_allowed 16 d a name ≡ given c → (tidy 16 d ≡ given c) × (savable name ≡ true)
+  allowed_parts : (c : Contents) → name_allowed 16 d a name ≡ Ok c → (tidy 16 d ≡ Ok c) × (savable name ≡ true)
   unfolding name_allowed
   allowed_parts c h =
       let g = gives (tidy 16 d) _ c h in
       let t = steps g.0 (savable name) (may_name a name) g.2 in
-      (g.1 ∙ ap given t.1, t.0)
+      (g.1 ∙ ap Ok t.1, t.0)
     where
-      steps : (x : Contents) (w v : Bool) → require w UnwritableName >> require v OtherSide >> given x ≡ given c → (w ≡ true) × (x ≡ c)
+      steps : (x : Contents) (w v : Bool) → require w UnwritableName >> require v OtherSide >> Ok x ≡ Ok c → (w ≡ true) × (x ≡ c)
       steps x true true q = (refl, given_same refl q)
       steps x true false q = absurd (refused_given q)
       steps x false v q = absurd (refused_given q)
 
 pub ruleset allows = (allow_refused, allow_unwritable, allow_other, allow_all, not-true, not-false, rules)
 
-module _ (d : List ℕ) (a : Asker) (name : List ℕ) (n : ℕ) (e : n ≡ number (name_allowed 16 d a name)) where
+module _ (d : List ℕ) (a : Caller) (name : List ℕ) where
   -- ---- a call that is refused so
-  pub delete_refused : (n ≡ 0 → ⊥) → Amended (deleted_by 16 d a name) d d n
-  unfolding deleted_by
-  delete_refused h = go (name_allowed 16 d a name) e
-    where
-      go : (o : Outcome Contents) → n ≡ number o → Amended (o >> (line_of 16 d name >>= λ x. deleted_at 16 d x)) d d n
-      go (refused r) q = record { is = q; disk = refl }
-      go (given c) q = absurd (h q)
+  module _ (v : Outcome (Unit {0})) (e : Refusal) (z : v ≡ Err e) (h : Err e ≡ silent (name_allowed 16 d a name)) where
+    pub delete_refused : Amended (deleted_by 16 d a name) d d v
+    unfolding deleted_by
+    delete_refused = rw z (go (name_allowed 16 d a name) h)
+      where
+        go : (o : Outcome Contents) → Err e ≡ silent o → Amended (o >> (line_of 16 d name >>= λ x. deleted_at 16 d x)) d d (Err e)
+        go (Err r) q = record { is = q; disk = refl }
+        go (Ok c) q = absurd (refused_given q)
 
-  pub save_refused : (address : ℕ) (bytes : List ℕ) → (n ≡ 0 → ⊥) → Amended (saved_by 16 d a name address bytes) d d n
-  unfolding saved_by
-  save_refused address bytes h = go _ (name_allowed 16 d a name) e
-    where
-      go : (f : Contents → Outcome (List ℕ)) (o : Outcome Contents) → n ≡ number o → Amended (o >>= f) d d n
-      go f (refused r) q = record { is = q; disk = refl }
-      go f (given c) q = absurd (h q)
+    pub save_refused : (address : ℕ) (bytes : List ℕ) → Amended (saved_by 16 d a name address bytes) d d v
+    unfolding saved_by
+    save_refused address bytes = rw z (go _ (name_allowed 16 d a name) h)
+      where
+        go : (f : Contents → Outcome (List ℕ)) (o : Outcome Contents) → Err e ≡ silent o → Amended (o >>= f) d d (Err e)
+        go f (Err r) q = record { is = q; disk = refl }
+        go f (Ok c) q = absurd (refused_given q)
 
   -- ---- one that is not
-  module _ (z : n ≡ 0) where
-    has : (c : Contents) × (name_allowed 16 d a name ≡ given c)
-    has = number_0 (name_allowed 16 d a name) (sym e ∙ z)
+  module _ (e : Ok tt ≡ silent (name_allowed 16 d a name)) where
+    has : (c : Contents) × (name_allowed 16 d a name ≡ Ok c)
+    has = silent_given (name_allowed 16 d a name) (sym e)
 
-    tidied : tidy 16 d ≡ given has.0
+    tidied : tidy 16 d ≡ Ok has.0
     tidied = (allowed_parts d a name has.0 has.1).0
 
     reads : Reading 16 d
@@ -185,15 +188,16 @@ module _ (d : List ℕ) (a : Asker) (name : List ℕ) (n : ℕ) (e : n ≡ numbe
     -- what the side that asks holds is what was counted
     over_is : (k : ℕ) → room_for 16 d a k ≡ require (not (over_limit d a k)) OverLimit
     unfolding within
-    over_is k =
-        by_test a.sided
-        (λ t.
-        let g = own_given 16 d a.side reads in
-        let m : ℕ = length (flat_map (λ t. t) g.0) in
-        let h : held_by 16 d a.side ≡ given m = held_is 16 d a.side (flat_map (λ t. t) g.0) g.2 in
-        let q : tally 16 d a.side ≡ m = counted 16 d a.side m h in
-        rw (t, h, q) (ap (λ (b : Bool). require b OverLimit) (leb_ltb (m + (lists_for (data_for k) + data_for k)) a.limit)))
-        (λ t. rw t refl)
+    over_is k = go a
+      where
+        go : (b : Caller) → room_for 16 d b k ≡ require (not (over_limit d b k)) OverLimit
+        go None = refl
+        go (Some b) =
+            let g = own_given 16 d b.side reads in
+            let m : ℕ = length (flat_map (λ t. t) g.0) in
+            let h : held_by 16 d b.side ≡ Ok m = held_is 16 d b.side (flat_map (λ t. t) g.0) g.2 in
+            let q : tally 16 d b.side ≡ m = counted 16 d b.side m h in
+            rw (h, q) (ap (λ (x : Bool). require x OverLimit) (leb_ltb (m + (lists_for (data_for k) + data_for k)) b.limit))
 
     deleted_is : deleted_by 16 d a name ≡ (line_of 16 d name >>= λ x. deleted_at 16 d x)
     unfolding deleted_by
@@ -212,54 +216,52 @@ module _ (d : List ℕ) (a : Asker) (name : List ℕ) (n : ℕ) (e : n ≡ numbe
       seen_is : s ≡ sight_of d name every
       seen_is = u.is reads.ps reads.paged
 
-      last_is : s.named ≡ true → last_of (bears d name) every ≡ some s.line
+      last_is : (x : ℕ) → s.line ≡ Some x → last_of (bears d name) every ≡ some x
       unfolding sight_of
-      last_is h = some_of (last_of (bears d name) every) s.line (ap (λ (t : Sight). t.line) seen_is) (sym (ap (λ (t : Sight). t.named) seen_is) ∙ h)
+      last_is x h = some_of (last_of (bears d name) every) x (sym (ap (λ (t : Sight). t.line) seen_is) ∙ h)
 
-      last_not : s.named ≡ false → last_of (bears d name) every ≡ none
+      last_not : s.line ≡ None → last_of (bears d name) every ≡ none
       unfolding sight_of
-      last_not h = none_of (last_of (bears d name) every) (sym (ap (λ (t : Sight). t.named) seen_is) ∙ h)
+      last_not h = none_of (last_of (bears d name) every) (sym (ap (λ (t : Sight). t.line) seen_is) ∙ h)
 
-      first_is : s.vacant ≡ true → first_of (idle d) every ≡ some s.room
+      first_is : (x : ℕ) → s.room ≡ Some x → first_of (idle d) every ≡ some x
       unfolding sight_of
-      first_is h = some_of (first_of (idle d) every) s.room (ap (λ (t : Sight). t.room) seen_is) (sym (ap (λ (t : Sight). t.vacant) seen_is) ∙ h)
+      first_is x h = some_of (first_of (idle d) every) x (sym (ap (λ (t : Sight). t.room) seen_is) ∙ h)
 
-      first_not : s.vacant ≡ false → first_of (idle d) every ≡ none
+      first_not : s.room ≡ None → first_of (idle d) every ≡ none
       unfolding sight_of
-      first_not h = none_of (first_of (idle d) every) (sym (ap (λ (t : Sight). t.vacant) seen_is) ∙ h)
+      first_not h = none_of (first_of (idle d) every) (sym (ap (λ (t : Sight). t.room) seen_is) ∙ h)
 
       any_is : any (holds_name name) reads.ls ≡ any (bears d name) every
       any_is = each_any 16 d (holds_name name) (bears d name) (line_name 16 d name) every reads.ls reads.files
 
-      any_true : s.named ≡ true → any (holds_name name) reads.ls ≡ true
-      any_true h =
-          let l = last_split (bears d name) every s.line (last_is h) in
-          any_is ∙ ap (any (bears d name)) l.2 ∙ any_here (bears d name) l.0 s.line l.1 l.4
+      any_found : (o : rust.Option ℕ) → s.line ≡ o → any (holds_name name) reads.ls ≡ is_some o
+      any_found None e = any_is ∙ last_none (bears d name) every (last_not e)
+      any_found (Some x) e =
+          let l = last_split (bears d name) every x (last_is x e) in
+          any_is ∙ ap (any (bears d name)) l.2 ∙ any_here (bears d name) l.0 x l.1 l.4
 
-      any_false : s.named ≡ false → any (holds_name name) reads.ls ≡ false
-      any_false h = any_is ∙ last_none (bears d name) every (last_not h)
-
-      pub erase_this : s.named ≡ true → Erasable d s.line
+      pub erase_this : (x : ℕ) → s.line ≡ Some x → Erasable d x
       unfolding line_holds
-      erase_this h =
-          let l = last_split (bears d name) every s.line (last_is h) in
-          let p = parts_of 16 d d reads l.0 s.line l.1 l.2 in
-          let t : in_use d s.line ≡ true = (both_true (in_use d s.line) _ l.4).0 in
+      erase_this x h =
+          let l = last_split (bears d name) every x (last_is x h) in
+          let p = parts_of 16 d d reads l.0 x l.1 l.2 in
+          let t : in_use d x ≡ true = (both_true (in_use d x) _ l.4).0 in
           record {
             size = tidy_long;
-            fits = line_fits 16 (omega arith) d tidy_long reads l.0 s.line l.1 l.2;
+            fits = line_fits 16 (omega arith) d tidy_long reads l.0 x l.1 l.2;
             places = p.u;
             is = sym (rw t refl) ∙ p.holds_x;
           }
 
       -- ---- a delete
-      pub delete_missing : s.named ≡ false → Amended (deleted_by 16 d a name) d d 18
+      pub delete_missing : s.line ≡ None → Amended (deleted_by 16 d a name) d d (Err NotOnRoll)
       unfolding line_of
       delete_missing h = refuses d NotOnRoll (deleted_is ∙ rw (reads.paged, last_not h) refl)
 
-      pub delete_there : (after : List ℕ) → Erased d s.line after → s.named ≡ true → Amended (deleted_by 16 d a name) d after 0
+      pub delete_there : (x : ℕ) → s.line ≡ Some x → (after : List ℕ) → Erased d x after → Amended (deleted_by 16 d a name) d after (Ok tt)
       unfolding line_of
-      delete_there after x h = accepts d after (deleted_is ∙ rw (reads.paged, last_is h) x.is)
+      delete_there x h after e = accepts d after (deleted_is ∙ rw (reads.paged, last_is x h) e.is)
 
       -- ---- a save
       pub save_seated : Seated d name s
@@ -269,61 +271,60 @@ module _ (d : List ℕ) (a : Asker) (name : List ℕ) (n : ℕ) (e : n ≡ numbe
             size = tidy_long;
             named = (allowed_parts d a name has.0 has.1).1;
             full = λ v. rw (reads.paged, first_not v) refl;
-            room = λ v.
-                let g = first_split (idle d) every s.room (first_is v) in
-                (rw (reads.paged, first_is v) refl, line_fits 16 (omega arith) d tidy_long reads g.0 s.room g.1 g.2);
+            room = λ x v.
+                let g = first_split (idle d) every x (first_is x v) in
+                (rw (reads.paged, first_is x v) refl, line_fits 16 (omega arith) d tidy_long reads g.0 x g.1 g.2);
           }
 
       module _ (address : ℕ) (bytes : List ℕ) where
-        pub save_taken : s.named ≡ true → Amended (saved_by 16 d a name address bytes) d d 22
-        save_taken h = refuses d NameTaken (saved_is address bytes ∙ rw (any_true h) refl)
+        pub save_taken : (b : Bool) → b ≡ is_some s.line → b ≡ true → Amended (saved_by 16 d a name address bytes) d d (Err NameTaken)
+        save_taken b e h = refuses d NameTaken (saved_is address bytes ∙ rw (any_found s.line refl, ← e, h) refl)
 
-        module _ (h : s.named ≡ false) (o : Bool) (l : o ≡ over_limit d a (length bytes)) where
-          pub save_over : o ≡ true → Amended (saved_by 16 d a name address bytes) d d 24
-          save_over t = refuses d OverLimit (saved_is address bytes ∙ rw (any_false h, ← l, t) refl)
+        module _ (b : Bool) (i : b ≡ is_some s.line) (h : b ≡ false) (o : Bool) (l : o ≡ over_limit d a (length bytes)) where
+          pub save_over : o ≡ true → Amended (saved_by 16 d a name address bytes) d d (Err OverLimit)
+          save_over t = refuses d OverLimit (saved_is address bytes ∙ rw (any_found s.line refl, ← i, h, ← l, t) refl)
 
-          pub save_settled : (after : List ℕ) (r : ℕ) → Amended (stored 16 d name address bytes) d after r → o ≡ false
+          pub save_settled : (after : List ℕ) (r : Outcome (Unit {0})) → Amended (stored 16 d name address bytes) d after r → o ≡ false
               → Amended (saved_by 16 d a name address bytes) d after r
-          save_settled after r b t = same_call (saved_is address bytes ∙ rw (any_false h, ← l, t) refl) b
+          save_settled after r k t = same_call (saved_is address bytes ∙ rw (any_found s.line refl, ← i, h, ← l, t) refl) k
 
 -- ---- the end of a save
 module _ (d name : List ℕ) (s : Sight) (h : Seated d name s) (address : ℕ) (bytes : List ℕ) where
-  pub settle_long : 32768 < length bytes → Amended (stored 16 d name address bytes) d d 21
+  pub settle_long : 32768 < length bytes → Amended (stored 16 d name address bytes) d d (Err NoSpace)
   settle_long k = refuses d NoSpace (rw (lt-leb (length bytes) 32768 k) refl)
 
   module _ (k : length bytes ≤ 32768) where
-    pub settle_full : s.vacant ≡ false → Amended (stored 16 d name address bytes) d d 21
+    pub settle_full : s.room ≡ None → Amended (stored 16 d name address bytes) d d (Err NoSpace)
     settle_full v = refuses d NoSpace (rw (le-leb (length bytes) 32768 k, h.full v) refl)
 
-    pub settle_storable : s.vacant ≡ true → Storable d s.room name bytes
-    settle_storable v = record { size = h.size; fits = (h.room v).1; named = h.named; short = k }
+    pub settle_storable : (x : ℕ) → s.room ≡ Some x → Storable d x name bytes
+    settle_storable x v = record { size = h.size; fits = (h.room x v).1; named = h.named; short = k }
 
-    pub settle_stored : (after : List ℕ) (r : ℕ) → Amended (saved_at 16 d s.room name address bytes) d after r → s.vacant ≡ true
+    pub settle_stored : (x : ℕ) → s.room ≡ Some x → (after : List ℕ) (r : Outcome (Unit {0})) → Amended (saved_at 16 d x name address bytes) d after r
         → Amended (stored 16 d name address bytes) d after r
-    settle_stored after r b v = same_call (rw (le-leb (length bytes) 32768 k, (h.room v).0) refl) b
+    settle_stored x v after r b = same_call (rw (le-leb (length bytes) 32768 k, (h.room x v).0) refl) b
 
 pub ruleset settles = (settle_long, settle_full, settle_storable, settle_stored, not-true, not-false, rules)
 
 -- ---- who asks
-pub may_all : (a : Asker) (name : List ℕ) → a.sided ≡ false → true ≡ may_name a name
+pub may_all : (a : Caller) (name : List ℕ) → a ≡ None → true ≡ may_name a name
 may_all a name h = rw h refl
 
-pub may_own : (a : Asker) (name : List ℕ) (r : Bool) (s : Side) → r ≡ belongs s name → s ≡ a.side → a.sided ≡ true → r ≡ may_name a name
-may_own a name r s e f h = rw h (e ∙ ap (λ (t : Side). belongs t name) f)
+pub may_own : (a : Caller) (b : Asker) (name : List ℕ) (r : Bool) → r ≡ belongs b.side name → a ≡ Some b → r ≡ may_name a name
+may_own a b name r e h = rw h e
 
-pub over_none : (d : List ℕ) (a : Asker) (k : ℕ) → a.sided ≡ false → false ≡ over_limit d a k
+pub over_none : (d : List ℕ) (a : Caller) (k : ℕ) → a ≡ None → false ≡ over_limit d a k
 over_none d a k h = rw h refl
 
-pub over_side : (d : List ℕ) (a : Asker) (k m l c : ℕ) (s : Side) → c ≡ tally 16 d s → m ≡ data_for k → l ≡ lists_for m → s ≡ a.side → a.sided ≡ true
-    → ltb a.limit (c + (l + m)) ≡ over_limit d a k
-over_side d a k m l c s e f g q h =
-    rw h (λ i. ltb a.limit ((e ∙ ap (tally 16 d) q) i + ((g ∙ ap lists_for f) i + f i)))
+pub over_side : (d : List ℕ) (a : Caller) (b : Asker) (k m l c : ℕ) → c ≡ tally 16 d b.side → m ≡ data_for k → l ≡ lists_for m → a ≡ Some b
+    → ltb b.limit (c + (l + m)) ≡ over_limit d a k
+over_side d a b k m l c e f g h = rw h (λ i. ltb b.limit (e i + ((g ∙ ap lists_for f) i + f i)))
 
 -- ---- the calls of Req 09 and Req 10 are these
 -- the tests of a save and a delete in one row, and cut after the name's
 module _ (o : Outcome Contents) (w v : Bool) where
   abbrev front : Outcome Contents
-  front = o >>= λ c. require w UnwritableName >> require v OtherSide >> given c
+  front = o >>= λ c. require w UnwritableName >> require v OtherSide >> Ok c
 
   row_saves : (t : Contents → Bool) (l : Outcome (Unit {0})) (e : Outcome (List ℕ))
       → (o >>= λ c. require w UnwritableName >> require v OtherSide >> require (t c) NameTaken >> l >> e) ≡ (front >>= λ c. require (t c) NameTaken >> l >> e)
@@ -331,21 +332,21 @@ module _ (o : Outcome Contents) (w v : Bool) where
     where
       go : (o : Outcome Contents) (w v : Bool)
           → (o >>= λ c. require w UnwritableName >> require v OtherSide >> require (t c) NameTaken >> l >> e)
-          ≡ ((o >>= λ c. require w UnwritableName >> require v OtherSide >> given c) >>= λ c. require (t c) NameTaken >> l >> e)
-      go (refused r) w v = refl
-      go (given c) false v = refl
-      go (given c) true false = refl
-      go (given c) true true = refl
+          ≡ ((o >>= λ c. require w UnwritableName >> require v OtherSide >> Ok c) >>= λ c. require (t c) NameTaken >> l >> e)
+      go (Err r) w v = refl
+      go (Ok c) false v = refl
+      go (Ok c) true false = refl
+      go (Ok c) true true = refl
 
   row_deletes : (e : Outcome (List ℕ)) → (o >> require w UnwritableName >> require v OtherSide >> e) ≡ (front >> e)
   row_deletes e = go o w v
     where
       go : (o : Outcome Contents) (w v : Bool)
-          → (o >> require w UnwritableName >> require v OtherSide >> e) ≡ ((o >>= λ c. require w UnwritableName >> require v OtherSide >> given c) >> e)
-      go (refused r) w v = refl
-      go (given c) false v = refl
-      go (given c) true false = refl
-      go (given c) true true = refl
+          → (o >> require w UnwritableName >> require v OtherSide >> e) ≡ ((o >>= λ c. require w UnwritableName >> require v OtherSide >> Ok c) >> e)
+      go (Err r) w v = refl
+      go (Ok c) false v = refl
+      go (Ok c) true false = refl
+      go (Ok c) true true = refl
 
 module _ (d name : List ℕ) where
   -- without a side its tests fall away
@@ -361,41 +362,38 @@ module _ (d name : List ℕ) where
 
       go : (o : Outcome Contents)
           → (o >>= λ c. require (savable name) UnwritableName >> require (is_new c name) NameTaken >> stored 16 d name address bytes)
-          ≡ ((o >>= λ c. require (savable name) UnwritableName >> require true OtherSide >> given c)
+          ≡ ((o >>= λ c. require (savable name) UnwritableName >> require true OtherSide >> Ok c)
           >>= λ c. require (is_new c name) NameTaken >> room_for 16 d no_side (length bytes) >> stored 16 d name address bytes)
-      go (refused r) = refl
-      go (given c) =
+      go (Err r) = refl
+      go (Ok c) =
           steps (savable name) (is_new c name) (stored 16 d name address bytes)
-          ∙ row_saves (given c) (savable name) true (λ x. is_new x name) (room_for 16 d no_side (length bytes)) (stored 16 d name address bytes)
+          ∙ row_saves (Ok c) (savable name) true (λ x. is_new x name) (room_for 16 d no_side (length bytes)) (stored 16 d name address bytes)
 
   no_side_deletes : deleted 16 d name ≡ deleted_by 16 d no_side name
   unfolding deleted_by deleted name_allowed
   no_side_deletes = go (tidy 16 d) (savable name) ∙ row_deletes (tidy 16 d) (savable name) true (removed 16 d name)
     where
       go : (o : Outcome Contents) (w : Bool) → (o >> require w UnwritableName >> removed 16 d name) ≡ (o >> require w UnwritableName >> require true OtherSide >> removed 16 d name)
-      go (refused r) w = refl
-      go (given c) false = refl
-      go (given c) true = refl
+      go (Err r) w = refl
+      go (Ok c) false = refl
+      go (Ok c) true = refl
 
-  module _ (a : Asker) (after : List ℕ) (r : ℕ) where
-    pub no_side_saved : (address : ℕ) (bytes : List ℕ) → Amended (saved_by 16 d a name address bytes) d after r → a ≡ no_side → Amended (saved 16 d name address bytes) d after r
-    no_side_saved address bytes h e = same_call (no_side_saves address bytes ∙ ap (λ (b : Asker). saved_by 16 d b name address bytes) (sym e)) h
+  module _ (after : List ℕ) (r : Outcome (Unit {0})) where
+    pub no_side_saved : (address : ℕ) (bytes : List ℕ) → Amended (saved_by 16 d no_side name address bytes) d after r → Amended (saved 16 d name address bytes) d after r
+    no_side_saved address bytes h = same_call (no_side_saves address bytes) h
 
-    pub no_side_deleted : Amended (deleted_by 16 d a name) d after r → a ≡ no_side → Amended (deleted 16 d name) d after r
-    no_side_deleted h e = same_call (no_side_deletes ∙ ap (λ (b : Asker). deleted_by 16 d b name) (sym e)) h
+    pub no_side_deleted : Amended (deleted_by 16 d no_side name) d after r → Amended (deleted 16 d name) d after r
+    no_side_deleted h = same_call no_side_deletes h
 
-    pub one_side_saved : (s : Side) (limit address : ℕ) (bytes : List ℕ) → Amended (saved_by 16 d a name address bytes) d after r → a ≡ one_side s limit
+    pub one_side_saved : (s : Side) (limit address : ℕ) (bytes : List ℕ) → Amended (saved_by 16 d (one_side s limit) name address bytes) d after r
         → Amended (saved_for 16 d s limit name address bytes) d after r
     unfolding saved_by saved_for name_allowed
-    one_side_saved s limit address bytes h e =
-        same_call
-        (row_saves (tidy 16 d) (savable name) (belongs s name) (λ c. is_new c name) (within 16 d s limit (length bytes)) (stored 16 d name address bytes)
-        ∙ ap (λ (b : Asker). saved_by 16 d b name address bytes) (sym e)) h
+    one_side_saved s limit address bytes h =
+        same_call (row_saves (tidy 16 d) (savable name) (belongs s name) (λ c. is_new c name) (within 16 d s limit (length bytes)) (stored 16 d name address bytes)) h
 
-    pub one_side_deleted : (s : Side) (limit : ℕ) → Amended (deleted_by 16 d a name) d after r → a ≡ one_side s limit → Amended (deleted_for 16 d s limit name) d after r
+    pub one_side_deleted : (s : Side) (limit : ℕ) → Amended (deleted_by 16 d (one_side s limit) name) d after r → Amended (deleted_for 16 d s limit name) d after r
     unfolding deleted_by deleted_for name_allowed
-    one_side_deleted s limit h e =
-        same_call (row_deletes (tidy 16 d) (savable name) (belongs s name) (removed 16 d name) ∙ ap (λ (b : Asker). deleted_by 16 d b name) (sym e)) h
+    one_side_deleted s limit h = same_call (row_deletes (tidy 16 d) (savable name) (belongs s name) (removed 16 d name)) h
 
 pub ruleset askers = (may_all, may_own, over_none, over_side, no_side_saved, one_side_saved, no_side_deleted, one_side_deleted, not-true, not-false, rules)
 
@@ -418,7 +416,7 @@ module _ (d : List ℕ) (x : ℕ) (h : Erasable d x) where
 
   -- the copy, put back
   module _ (p : Place) (T T' : List ℕ) (c : Copied d T) (l : ListsFreed d p T T') (e : p ≡ (entry_from d x).list) where
-    given_lists : (ls : List Place) × (lists 16 d (entry_from d x) ≡ given ls) × (all (on_disk 16) (flat_map (pairs_of 16 d) ls) ≡ true) × (h.places ≡ flat_map (with_pairs 16 d) ls)
+    given_lists : (ls : List Place) × (lists 16 d (entry_from d x) ≡ Ok ls) × (all (on_disk 16) (flat_map (pairs_of 16 d) ls) ≡ true) × (h.places ≡ flat_map (with_pairs 16 d) ls)
     given_lists = sectors_given 16 d (entry_from d x) h.places h.is
 
     table_is : T' ≡ frees (bytes_of 16 d vtoc) h.places
@@ -445,20 +443,20 @@ module _ (d : List ℕ) (x : ℕ) (h : Erasable d x) where
         p₁.is ∙ ap (λ (U : List ℕ). put 69632 U d) table_is ∙ copy_freed d h.size (sectors_on 16 d (entry_from d x) h.places h.is) in
         let q₃ : d₃ ≡ put (x + 32) (get_or d x 0 ∷ []) (put x (255 ∷ []) (freed 16 h.places d)) =
         p₃.is ∙ (λ i. put (x + 32) (f i ∷ []) ((p₂.is ∙ ap (put x (255 ∷ [])) q₁) i)) in
-        record { is = rw h.is (ap given (sym q₃)) }
+        record { is = rw h.is (ap Ok (sym q₃)) }
 
 pub ruleset erases = (erase_long, erase_fits, erase_linked, erase_done, rules)
 
 -- ---- a file stored
 -- its entry
-made_is : (p : Place) (name : List ℕ) (count : ℕ) (out : List ℕ) (r : Handed) → Hands (entry_written p 4 false name count) (replicate 35 0) out r
+made_is : (p : Place) (name : List ℕ) (count : ℕ) (out : List ℕ) (r : Outcome ℕ) → Hands (entry_written p 4 false name count) (replicate 35 0) out r
     → savable name ≡ true → out ≡ entry_record p 4 false name count
 unfolding entry_written
 made_is p name count out r h w =
     let l = length_record p 4 false name count in
     h.left ∙ rw ((savable_parts name w).0, l, l) (append-nil (entry_record p 4 false name count))
 
-pub entry_writes_lem : (x : ℕ) (P name : List ℕ) (count a b : ℕ) (before after out : List ℕ) (r : Handed)
+pub entry_writes_lem : (x : ℕ) (P name : List ℕ) (count a b : ℕ) (before after out : List ℕ) (r : Outcome ℕ)
     → Hands (entry_written (place a b) 4 false name count) (replicate 35 0) out r → after ≡ placed x out before → a ≡ get_or P 0 0 → b ≡ get_or P 1 0
     → savable name ≡ true → EntryPut x P name count before after
 entry_writes_lem x P name count a b before after out r h e f g w =
@@ -476,8 +474,6 @@ pub file_puts_lem : (x : ℕ) (P name : List ℕ) (address : ℕ) (bytes : List 
 file_puts_lem x P name address bytes m d d₁ d₂ e f q =
     record { is = e.is ∙ (λ i. placed x (entry_record (place_in P 0) 4 false name (q i)) (f.is i)) }
 
-pub ruleset file_puts = (file_puts_lem, rules)
-
 module _ (d : List ℕ) (x : ℕ) (name : List ℕ) (address : ℕ) (bytes : List ℕ) (h : Storable d x name bytes) where
   pub store_long : length d ≡ 143360
   store_long = h.size
@@ -492,12 +488,12 @@ module _ (d : List ℕ) (x : ℕ) (name : List ℕ) (address : ℕ) (bytes : Lis
     fit : 2 * m ≤ 262
     fit = rw q (places_fit (length bytes) h.short)
 
-    pub store_none : b ≡ false → Amended (saved_at 16 d x name address bytes) d d 21
+    pub store_none : b ≡ false → Amended (saved_at 16 d x name address bytes) d d (Err NoSpace)
     unfolding saved_at
     store_none f = refuses d NoSpace (rw (allotted_none d h.size (length bytes) m 262 T (replicate 262 0) T' P' b a q (copy_is d T c h.size) refl fit f) refl)
 
     module _ (f : b ≡ true) where
-      all_given : (gs : List Part) × (take_for 16 (length bytes) d ≡ given (gs, put (start 16 vtoc) T' d)) × (P' ≡ padded 262 (flat_map place_bytes (sectors_in gs))) × (length T' ≡ 256)
+      all_given : (gs : List Part) × (take_for 16 (length bytes) d ≡ Ok (gs, put (start 16 vtoc) T' d)) × (P' ≡ padded 262 (flat_map place_bytes (sectors_in gs))) × (length T' ≡ 256)
       all_given = allotted_all d h.size (length bytes) m 262 T (replicate 262 0) T' P' b a q (copy_is d T c h.size) refl fit f
 
       abbrev gs : List Part
@@ -506,7 +502,7 @@ module _ (d : List ℕ) (x : ℕ) (name : List ℕ) (address : ℕ) (bytes : Lis
       takings : Taking 16 d (sectors_in gs) (put 69632 T' d) × Shaped (data_for (length bytes)) false gs × (length gs ≡ lists_for (data_for (length bytes)))
       takings = take_for_lem 16 (omega arith) (omega arith) (length bytes) d gs (put 69632 T' d) h.size all_given.1
 
-      pub store_done : (d₁ d₃ : List ℕ) → FilePut x P' name address bytes d₁ d₃ → d₁ ≡ placed 69632 T' d → Amended (saved_at 16 d x name address bytes) d d₃ 0
+      pub store_done : (d₁ d₃ : List ℕ) → FilePut x P' name address bytes d₁ d₃ → d₁ ≡ placed 69632 T' d → Amended (saved_at 16 d x name address bytes) d d₃ (Ok tt)
       unfolding saved_at
       store_done d₁ d₃ e₃ e₁ =
           let d₂ : List ℕ = filed P' address bytes d₁ in
@@ -525,6 +521,6 @@ module _ (d : List ℕ) (x : ℕ) (name : List ℕ) (address : ℕ) (bytes : Lis
           let q₃ : d₃ ≡ put x (entry_record (first_list gs) 4 false name (length gs + length (data_of gs))) (written 16 (file_writes gs address bytes) (put 69632 T' d)) =
           p₃.is
           ∙ (λ i. put x (entry_record (first_place_lem P' gs all_given.2 i) 4 false name (count i)) ((q₂ ∙ ap (written 16 (file_writes gs address bytes)) p₁.is) i)) in
-          accepts d d₃ (rw all_given.1 (ap given (sym q₃)))
+          accepts d d₃ (rw all_given.1 (ap Ok (sym q₃)))
 
 pub ruleset stores = (store_long, store_short, store_named, store_none, store_done, not-true, not-false, rules)

@@ -1,4 +1,5 @@
 -- The sectors of a file called free in a copy of the table. Assumes nothing.
+use Rattle.std.specs.Prelude.{Ok}
 use mathlib.Core.Path.{◌≡◌, refl, sym, ap, ◌∙◌}
 use mathlib.Core.Bool.{Bool, true, false, ◌&&◌}
 use mathlib.Core.List.{List, [], ◌∷◌, ◌++◌, flat_map, foldl, append-nil, append_assoc}
@@ -17,7 +18,6 @@ use Rattle.disk.specs.declared.Place.{Place}
 use Rattle.disk.specs.Disk.{on_disk, sectors, byte_of, bytes_of, link_of}
 use Rattle.disk.specs.Vtoc.{vtoc}
 use Rattle.disk.proofs.Steps.{made, rest, rest_start, rest_within, rest_last, rest_on}
-use Rattle.outcome.specs.Outcome.{given}
 use Rattle.holders.specs.Holders.{with_pairs}
 use Rattle.disk.proofs.Places.{on_track}
 use Rattle.files.specs.Contents.{pair_at, pairs_of, sound_list, next_list, list_walk}
@@ -166,8 +166,8 @@ module _ (d : List ℕ) where
       pub count : k ≤ most
       pub long : length T ≡ length T₀
       pub lists : List Place
-      pub walked : list_walk 16 d first ≡ given lists
-      pub is : rest step 16 (sound_list 16 d) (next_list 16 d) (35 * 16 + 1) k T p ≡ given (foldl step T₀ lists)
+      pub walked : list_walk 16 d first ≡ Ok lists
+      pub is : rest step 16 (sound_list 16 d) (next_list 16 d) (35 * 16 + 1) k T p ≡ Ok (foldl step T₀ lists)
 
     pub walking_none : (most : ℕ) → most ≡ 35 * 16 + 1 → Linked d first → Walking most 0 T₀ first
     unfolding list_walk
@@ -197,7 +197,7 @@ module _ (d : List ℕ) where
             let l = rest_last step 16 (sound_list 16 d) (next_list 16 d) (35 * 16 + 1) k T p (foldl step T₀ w.lists) w.is (rw (← e, z) refl) in
             record {
               is = λ ls q.
-                  let y : given w.lists ≡ given ls = sym w.walked ∙ q in
+                  let y : Ok w.lists ≡ Ok ls = sym w.walked ∙ q in
                   let x : w.lists ≡ ls = cc in
                   u.is ∙ sym l ∙ steps_are T₀ w.lists ∙ ap (λ (v : List Place). frees T₀ (flat_map (with_pairs 16 d) v)) x;
             }

@@ -1,4 +1,4 @@
-pub mod Tidy
+pub mod Tidied
 pub mod Names
 pub mod Pass
 pub mod Looks

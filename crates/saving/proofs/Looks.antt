@@ -3,6 +3,9 @@ use mathlib.Core.Path.{◌≡◌, refl, sym, ap, subst, ◌∙◌}
 use mathlib.Core.Bool.{Bool, true, false, cond}
 use mathlib.Core.List.{List, [], ◌∷◌, ◌++◌, map, flat_map, foldl, append_assoc, append-nil, map-append}
 use mathlib.Core.Option.{Option, none, some}
+use Rattle.std.specs.Prelude as rust
+use Rattle.std.specs.Prelude.{Some, None}
+use Rattle.std.specs.Option.{option_or}
 use Prim.Native.Nat.{ℕ, zero, suc, ◌+◌, ◌*◌, ◌<◌, ◌≤◌}
 use native.Mathlib.Numerals.{add-one}
 use native.Mathlib.Omega.{arith}
@@ -47,51 +50,30 @@ module _ (d name : List ℕ) where
       rw (last_snoc (bears d name) xs x, first_snoc (idle d) xs x) (see_both (last_of (bears d name) xs) (first_of (idle d) xs) x)
 
   -- ---- a line
-  same_sight : (s : Sight) (n : Bool) (l : ℕ) (v : Bool) (r : ℕ) → s.named ≡ n → s.line ≡ l → s.vacant ≡ v → s.room ≡ r
-      → s ≡ record { named = n; line = l; vacant = v; room = r }
-  same_sight s n l v r a b c e = λ i. record { named = a i; line = b i; vacant = c i; room = e i }
-
-  stays_open : (v : Bool) → v ≡ cond v true false
-  stays_open true = refl
-  stays_open false = refl
-
-  stays_room : (v : Bool) (r x : ℕ) → r ≡ cond v r (cond false x r)
-  stays_room true r x = refl
-  stays_room false r x = refl
+  or_none : (o : rust.Option ℕ) → o ≡ option_or o None
+  or_none None = refl
+  or_none (Some x) = refl
 
   module _ (s : Sight) (x b : ℕ) (v : Bool) (g : b ≡ get_or d x 0) (e : v ≡ valid_file b) where
     use_is : in_use d x ≡ v
     use_is = sym (e ∙ ap valid_file g)
 
-    pub line_idle : v ≡ false → s.vacant ≡ true → LineSeen d name s x s
+    pub line_open : v ≡ false → (r : rust.Option ℕ) → r ≡ option_or s.room (Some x) → LineSeen d name s x (record { line = s.line; room = r })
     unfolding see_line
-    line_idle z f =
-        let u : in_use d x ≡ false = use_is ∙ z in
-        record {
-          is =
-              rw u
-              (same_sight s s.named s.line _ _ refl refl (f ∙ sym (ap (λ (b : Bool). cond b true true) f))
-              (sym (ap (λ (b : Bool). cond b s.room x) f)));
-        }
-
-    pub line_open : v ≡ false → s.vacant ≡ false → LineSeen d name s x (record { named = s.named; line = s.line; vacant = true; room = x })
-    unfolding see_line
-    line_open z f = let u : in_use d x ≡ false = use_is ∙ z in record { is = rw (u, f) refl }
+    line_open z r q = let u : in_use d x ≡ false = use_is ∙ z in record { is = rw (u, q) refl }
 
     module _ (w : Bool) (h : w ≡ same name (shown (entry_from d x).raw)) (z : v ≡ true) where
-      pub line_named : w ≡ true → LineSeen d name s x (record { named = true; line = x; vacant = s.vacant; room = s.room })
+      pub line_named : w ≡ true → LineSeen d name s x (record { line = Some x; room = s.room })
       unfolding see_line
       line_named f =
           let u : in_use d x ≡ true = use_is ∙ z in
-          record { is = rw (u, ← h, f) (λ i. record { named = true; line = x; vacant = stays_open s.vacant i; room = stays_room s.vacant s.room x i }) }
+          record { is = rw (u, ← h, f) (λ i. record { line = Some x; room = or_none s.room i }) }
 
       pub line_other : w ≡ false → LineSeen d name s x s
       unfolding see_line
       line_other f =
           let u : in_use d x ≡ true = use_is ∙ z in
-          record {
-            is = rw (u, ← h, f) (same_sight s s.named s.line _ _ refl refl (stays_open s.vacant) (stays_room s.vacant s.room x));
-          }
+          record { is = rw (u, ← h, f) (λ i. record { line = s.line; room = or_none s.room i }) }
 
   -- ---- a page
   pub record Lining (p : Place) (s₀ : Sight) (i : ℕ) (s : Sight) : Type 0 where
@@ -136,11 +118,11 @@ module _ (d name : List ℕ) where
       ap (λ (s : Sight). foldl (see_page d name) s ps) (lines_are p 7 xs) ∙ pages_are (xs ++ lines_on p) ps
       ∙ ap (sight_of d name) (append_assoc xs (lines_on p) (flat_map lines_on ps))
 
-  none_is : sight_of d name [] ≡ record { named = false; line = 0; vacant = false; room = 0 }
+  none_is : sight_of d name [] ≡ record { line = None; room = None }
   unfolding sight_of last_of first_of
   none_is = refl
 
-  all_are : (s : Sight) → s ≡ record { named = false; line = 0; vacant = false; room = 0 } → (ps : List Place)
+  all_are : (s : Sight) → s ≡ record { line = None; room = None } → (ps : List Place)
       → foldl (see_page d name) s ps ≡ sight_of d name (starts 16 ps)
   unfolding starts
   all_are s e ps = ap (λ (t : Sight). foldl (see_page d name) t ps) (e ∙ sym none_is) ∙ pages_are [] ps
@@ -148,11 +130,11 @@ module _ (d name : List ℕ) where
   -- ---- the pages
   pub record Looking (most k : ℕ) (s : Sight) (p : Place) : Type 0 where
     pub from : Sight
-    pub blank : from ≡ record { named = false; line = 0; vacant = false; room = 0 }
+    pub blank : from ≡ record { line = None; room = None }
     pub pass : Passing (see_page d name) d from most k s p
 
   pub looking_none : (most : ℕ) (p : Place) (s : Sight) → most ≡ 35 * 16 + 1 → Paged d → p ≡ first_page 16 d
-      → s ≡ record { named = false; line = 0; vacant = false; room = 0 } → Looking most 0 s p
+      → s ≡ record { line = None; room = None } → Looking most 0 s p
   looking_none most p s e t f z = record { from = s; blank = z; pass = pass_none (see_page d name) d most p s e t f }
 
   module _ (most k : ℕ) (s : Sight) (p : Place) (w : Looking most k s p) where
@@ -174,7 +156,7 @@ module _ (d name : List ℕ) where
                 (pass_more (see_page d name) d w.from most k s p w.pass (sym e ∙ z) q f h);
           }
 
-pub ruleset seeing = (line_idle, line_open, line_named, line_other, not-true, not-false, rules)
+pub ruleset seeing = (line_open, line_named, line_other, not-true, not-false, rules)
 
 pub ruleset linings = (lining_none, lining_more, lining_done, rules)
 

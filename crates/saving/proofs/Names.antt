@@ -1,6 +1,6 @@
 -- Names that a save or a delete takes. Assumes nothing.
 use mathlib.Core.Path.{◌≡◌, refl, sym, ap, ◌∙◌}
-use mathlib.Core.Bool.{Bool, true, false, ◌||◌}
+use mathlib.Core.Bool.{Bool, true, false, not, ◌||◌}
 use mathlib.Core.List.{List, [], ◌∷◌, ◌++◌}
 use Prim.Native.Nat.{ℕ, suc, ◌+◌, ◌-◌, ◌<◌, ◌≤◌}
 use native.Mathlib.Numerals.{add-one}
@@ -8,11 +8,11 @@ use native.Mathlib.Omega.{arith}
 use lib.ListN.{length, get_or, take, drop, drop_of_length-le}
 use lib.Seq.{take-suc, take_all, drop-cons, length-take-le}
 use lib.Dec.{eqb}
-use borrow.Author.Tests.{eq-eqb, ne_eqb, not-true, not-false}
+use borrow.Author.Tests.{eq-eqb, ne_eqb, eqb-true, eqb-false, not-true, not-false}
 use borrow.Author.Rules.{rules}
 use Rattle.lists.specs.Same.{same}
 use Rattle.lists.specs.Select.{among}
-use Rattle.lists.proofs.Split.{by_lt}
+use Rattle.lists.proofs.Split.{by_lt, by_test}
 use Rattle.lists.proofs.Equal.{same_refl, same_length}
 use Rattle.catalog.specs.Catalog.{trimmed}
 use Rattle.catalog.proofs.Names.{trimmed_short}
@@ -94,4 +94,8 @@ module _ (s : List ℕ) (w b : Bool) (c : ℕ) (e : w ≡ writable s) (f : b ≡
   unfolding savable
   without q = rw (← e, z, ← f, y, kept s (has_last s w e z) (λ x. q (g ∙ x))) refl
 
-pub ruleset savables = (not_writable, has_last, with_zero, with_space, without, not-true, not-false, rules)
+  -- by its last byte
+  pub last_is : not (eqb c 32) ≡ savable s
+  last_is = by_test (eqb c 32) (λ q. rw q (with_space (eqb-true c 32 q))) (λ q. rw q (without (eqb-false c 32 q)))
+
+pub ruleset savables = (not_writable, has_last, with_zero, last_is, not-true, not-false, rules)

@@ -1,10 +1,10 @@
 -- A second pass along the pages of a disk, these having been read. Assumes nothing.
+use Rattle.std.specs.Prelude.{Ok}
 use mathlib.Core.Path.{◌≡◌, refl, sym, ap, ◌∙◌}
 use mathlib.Core.Bool.{true, false}
 use mathlib.Core.List.{List, foldl}
 use Prim.Native.Nat.{ℕ, ◌+◌, ◌*◌, ◌<◌, ◌≤◌}
 use native.Mathlib.Omega.{arith}
-use Rattle.outcome.specs.Outcome.{given}
 use Rattle.disk.specs.declared.Place.{Place}
 use Rattle.disk.specs.Disk.{link_of}
 use Rattle.disk.proofs.Steps.{made, rest, rest_start, rest_within, rest_last, rest_on}
@@ -18,8 +18,8 @@ module _ {S : Type 0} (g : S → Place → S) (d : List ℕ) where
     pub budget : most ≡ 35 * 16 + 1
     pub count : k ≤ most
     pub places : List Place
-    pub walked : pages 16 d ≡ given places
-    pub is : rest g 16 (sound_page 16 d) (next_page 16 d) (35 * 16 + 1) k s p ≡ given (foldl g s₀ places)
+    pub walked : pages 16 d ≡ Ok places
+    pub is : rest g 16 (sound_page 16 d) (next_page 16 d) (35 * 16 + 1) k s p ≡ Ok (foldl g s₀ places)
 
   pub pass_none : (most : ℕ) (p : Place) (s : S) → most ≡ 35 * 16 + 1 → Paged d → p ≡ first_page 16 d → Passing s most 0 s p
   pass_none most p s e t f =
@@ -40,10 +40,10 @@ module _ {S : Type 0} (g : S → Place → S) (d : List ℕ) where
         let l = rest_within g 16 (sound_page 16 d) (next_page 16 d) (35 * 16 + 1) k s p (foldl g s₀ w.places) w.is in
         omega (arith, w.budget)
 
-    pub pass_last : last_page 16 d p ≡ true → (ps : List Place) → pages 16 d ≡ given ps → g s p ≡ foldl g s₀ ps
+    pub pass_last : last_page 16 d p ≡ true → (ps : List Place) → pages 16 d ≡ Ok ps → g s p ≡ foldl g s₀ ps
     unfolding next_page
     pass_last z ps q =
-        let y : given w.places ≡ given ps = sym w.walked ∙ q in
+        let y : Ok w.places ≡ Ok ps = sym w.walked ∙ q in
         let x : w.places ≡ ps = cc in
         sym (rest_last g 16 (sound_page 16 d) (next_page 16 d) (35 * 16 + 1) k s p (foldl g s₀ w.places) w.is (rw z refl)) ∙ ap (foldl g s₀) x
 

@@ -1,10 +1,11 @@
 -- The steps of a save and a delete: the lines looked along, and the sectors of a file called free in a copy of the VTOC.
 use Rattle.std.specs.Prelude.{◌≡◌, Bool, true, false, cond, not, ◌&&◌, ℕ, zero, suc, ◌+◌, ◌*◌, ◌≤◌, length, replicate}
 use mathlib.Core.List.{List, flat_map, foldl}
-use Rattle.std.proofs.Math.Option.{Option, none, some}
+use Rattle.std.proofs.Math.Option as maybe
+use Rattle.std.specs.Option.{option_or}
 use Rattle.lists.specs.Fill.{placed}
+use Rattle.std.specs.Prelude.{Ok, Err, Option, Some, None}
 use Rattle.outcome.specs.declared.Refusal.TheVariants.{NoSpace}
-use Rattle.outcome.specs.Outcome.{refused, given}
 use Rattle.disk.specs.declared.Place.{Place}
 use Rattle.disk.specs.Disk.{start, bytes_of}
 use Rattle.disk.specs.Vtoc.{vtoc}
@@ -19,18 +20,14 @@ use Rattle.filing.specs.Filing.{place_in, filed}
 use Rattle.saving.specs.declared.Sight.{Sight}
 
 -- ---- the lines looked along
--- a line was found, and where it starts; 0 where none was
-abbrev pub is_some : Option ℕ → Bool
-is_some none = false
-is_some (some x) = true
-
-abbrev pub start_or0 : Option ℕ → ℕ
-start_or0 none = 0
-start_or0 (some x) = x
+-- where a line starts, if one was found
+abbrev pub found_line : maybe.Option ℕ → Option ℕ
+found_line maybe.none = None
+found_line (maybe.some x) = Some x
 
 -- the line of the name, and the line that is not in use, as a look finds them
-abbrev pub sight : (line room : Option ℕ) → Sight
-sight a b = record { named = is_some a; line = start_or0 a; vacant = is_some b; room = start_or0 b }
+abbrev pub sight : (line room : maybe.Option ℕ) → Sight
+sight a b = record { line = found_line a; room = found_line b }
 
 -- a line that is not in use
 abbrev pub idle : List ℕ → ℕ → Bool
@@ -47,13 +44,7 @@ module _ (d name : List ℕ) where
 
   -- with the line x more, behind them
   unfoldable pub see_line : Sight → ℕ → Sight
-  see_line s x =
-      record {
-        named = cond (bears x) true s.named;
-        line = cond (bears x) x s.line;
-        vacant = cond s.vacant true (idle d x);
-        room = cond s.vacant s.room (cond (idle d x) x s.room);
-      }
+  see_line s x = record { line = cond (bears x) (Some x) s.line; room = option_or s.room (cond (idle d x) (Some x) None) }
 
   -- with the first i lines of a page more
   unfoldable pub see_lines : Place → (i : ℕ) → Sight → Sight
@@ -74,12 +65,12 @@ module _ (d name : List ℕ) where
 
   -- the lines of the disk were
   pub record Seen (r : Sight) : Type 0 where
-    pub is : (ps : List Place) → pages 16 d ≡ given ps → r ≡ sight_of (starts 16 ps)
+    pub is : (ps : List Place) → pages 16 d ≡ Ok ps → r ≡ sight_of (starts 16 ps)
 
 -- the pages were read before
 pub record Paged (d : List ℕ) : Type 0 where
   pub places : List Place
-  pub is : pages 16 d ≡ given places
+  pub is : pages 16 d ≡ Ok places
 
 -- ---- sectors called free
 -- some sectors, one after the other; a place that is not on the disk is passed over
@@ -95,10 +86,10 @@ pub record ListFreed (d : List ℕ) (p : Place) (before after : List ℕ) : Type
 -- the lists from p on were followed before
 pub record Linked (d : List ℕ) (p : Place) : Type 0 where
   pub lists : List Place
-  pub is : list_walk 16 d p ≡ given lists
+  pub is : list_walk 16 d p ≡ Ok lists
 
 pub record ListsFreed (d : List ℕ) (p : Place) (before after : List ℕ) : Type 0 where
-  pub is : (ls : List Place) → list_walk 16 d p ≡ given ls → after ≡ frees before (flat_map (with_pairs 16 d) ls)
+  pub is : (ls : List Place) → list_walk 16 d p ≡ Ok ls → after ≡ frees before (flat_map (with_pairs 16 d) ls)
 
 -- the VTOC as it is copied: zeros where the disk is too short to have one
 unfoldable pub vtoc_copy : List ℕ → List ℕ
@@ -114,18 +105,18 @@ pub record Erasable (d : List ℕ) (x : ℕ) : Type 0 where
   pub size : length d ≡ 143360
   pub fits : x + 35 ≤ length d
   pub places : List Place
-  pub is : sectors_of 16 d (entry_from d x) ≡ given places
+  pub is : sectors_of 16 d (entry_from d x) ≡ Ok places
 
 -- it was deleted
 pub record Erased (d : List ℕ) (x : ℕ) (after : List ℕ) : Type 0 where
-  pub is : deleted_at 16 d x ≡ given after
+  pub is : deleted_at 16 d x ≡ Ok after
 
 -- the lines were looked along for a file of the name: the line that it will fill, or 21
 pub record Seated (d name : List ℕ) (s : Sight) : Type 0 where
   pub size : length d ≡ 143360
   pub named : savable name ≡ true
-  pub full : s.vacant ≡ false → open_line 16 d ≡ refused NoSpace
-  pub room : s.vacant ≡ true → (open_line 16 d ≡ given s.room) × (s.room + 35 ≤ length d)
+  pub full : s.room ≡ None → open_line 16 d ≡ Err NoSpace
+  pub room : (x : ℕ) → s.room ≡ Some x → (open_line 16 d ≡ Ok x) × (x + 35 ≤ length d)
 
 -- a file can be stored in the line from x on, as far as sectors are found
 pub record Storable (d : List ℕ) (x : ℕ) (name bytes : List ℕ) : Type 0 where

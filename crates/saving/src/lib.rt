@@ -1,15 +1,15 @@
 // Saving and deleting on a flat disk: Req 09, and by two sides with a limit each: Req 10. Not of the Rust.
 #![tactic(auto)]
 
-ghost use Rattle.std.specs.Prelude.{◌≡◌, true, false, ◌+◌, ◌≤◌, length};
-ghost use Rattle.outcome.specs.Outcome.{number};
+ghost use Rattle.std.specs.Prelude.{◌≡◌, true, ◌+◌, ◌≤◌, length, None};
 ghost use Rattle.lists.specs.Select.{among};
 ghost use Rattle.files.specs.Contents.{pairs_of};
 ghost use Rattle.amend.specs.Lines.{savable, tidy};
 ghost use Rattle.amend.specs.Save.{data_for, lists_for, saved_at, stored, saved, deleted};
+ghost use Rattle.amend.specs.Amending.{bare};
 ghost use Rattle.sides.specs.Sides.{saved_for, deleted_for};
 ghost use Rattle.saving.specs.Saving.{Amended};
-ghost use Rattle.saving.specs.Askers.{no_side, one_side, may_name, over_limit, name_allowed, saved_by, deleted_by};
+ghost use Rattle.saving.specs.Askers.{may_name, over_limit, name_allowed, saved_by, deleted_by};
 ghost use Rattle.saving.specs.Steps.{LineSeen, PageSeen, Seen, Paged, PairsFreed, ListFreed, Linked, ListsFreed, Copied, Erasable, Erased, Seated, Storable, EntryPut, FilePut};
 
 use allot::{mark_sector, take_sectors};
@@ -19,89 +19,56 @@ use files::{MAX_PAIRS, has_name, last_list, parse_track_sector_pair};
 use filing::write_file;
 use holders::holders;
 use lists::{byte_at, copy_at, part};
-use outcome::{
-    NAME_TAKEN, NO_SPACE, NOT_CLEAN, NOT_ON_ROLL, OFF_SIZE, OTHER_SIDE, OVER_LIMIT, UNWRITABLE_NAME,
-};
+use outcome::Refusal;
 use records::{file_entry_as_vec, writable_name};
 use sides::{Side, belongs_to, count_held};
 
 // What a look along the lines has found: the last line of a name, and the first that is not in use.
-#[derive(Clone, Copy)]
+#[derive(Clone, Copy, Debug, PartialEq, Eq)]
 struct Sight {
-    named: bool,
-    line: usize,
-    vacant: bool,
-    room: usize,
+    line: Option<usize>,
+    room: Option<usize>,
 }
 
-// Who asks for a save or a delete: a side with its limit; or no side, to whom every name is allowed and no limit is set.
-#[derive(Clone, Copy)]
+// The side that asks for a save or a delete, with its limit. Where no side asks, every name is allowed and no limit is set.
+#[derive(Clone, Copy, Debug, PartialEq, Eq)]
 struct Asker {
-    sided: bool,
     side: Side,
     limit: u64,
 }
 
-// No side asks.
-fn no_side() -> Asker
-    ensures { result ≡ no_side }
-{
-    Asker {
-        sided: false,
-        side: Side::Ours,
-        limit: 0,
-    }
-}
-
-// A side asks, with its limit.
-fn one_side(side: Side, limit: u64) -> Asker
-    ensures { result ≡ one_side side limit }
-{
-    Asker {
-        sided: true,
-        side: side,
-        limit: limit,
-    }
-}
-
 // The name is not the other side's, where a side asks.
-fn may_name(asker: Asker, name: &[u8]) -> bool
+fn may_name(asker: Option<Asker>, name: &[u8]) -> bool
     ensures { result ≡ may_name asker name.now }
 {
-    if !asker.sided {
-        return true;
+    match asker {
+        None => true,
+        Some(a) => belongs_to(a.side, name),
     }
-    let side = asker.side;
-    belongs_to(side, name)
 }
 
-// Why a disk is not amended: 1 to 6, 20; 0 where it is. A disk of 13 sectors a track is 1.
-pub fn tidy_refusal(disk: &[u8]) -> u8
-    ensures { result ≡ number (tidy 16 disk.now) }
+// A disk that can be amended; refusals 1 to 6, 20. A disk of 13 sectors a track is 1.
+pub fn tidy(disk: &[u8]) -> Result<(), Refusal>
+    ensures { result ≡ bare (tidy 16 disk.now) }
 {
     if disk.len() != 143360 {
-        return OFF_SIZE;
+        return Err(Refusal::OffSize);
     }
-    let h = holders(disk);
-    if h.refusal != 0 {
-        return h.refusal;
+    let report = holders(disk)?;
+    if !report.clean {
+        return Err(Refusal::NotClean);
     }
-    if !h.clean {
-        return NOT_CLEAN;
-    }
-    0
+    Ok(())
 }
 
 // A byte 0 stands in the name.
 fn has_zero(name: &[u8]) -> bool
     ensures { result ≡ among 0 name.now }
 {
-    let mut k: usize = 0;
-    while k < name.len() {
+    for k in 0..name.len() {
         if name[k] == 0 {
             return true;
         }
-        k += 1;
     }
     false
 }
@@ -110,16 +77,7 @@ fn has_zero(name: &[u8]) -> bool
 fn savable_name(name: &[u8]) -> bool
     ensures { result ≡ savable name.now }
 {
-    if !writable_name(name) {
-        return false;
-    }
-    if has_zero(name) {
-        return false;
-    }
-    if byte_at(name, name.len() - 1) == 32 {
-        return false;
-    }
-    true
+    writable_name(name) && !has_zero(name) && byte_at(name, name.len() - 1) != 32
 }
 
 // With the line from x on looked at.
@@ -127,23 +85,13 @@ fn see_line(disk: &[u8], name: &[u8], s: Sight, x: usize) -> Sight
     ensures { LineSeen disk.now name.now s x result }
 {
     if !valid_file(byte_at(disk, x)) {
-        if s.vacant {
-            return s;
-        }
         return Sight {
-            named: s.named,
-            line: s.line,
-            vacant: true,
-            room: x,
+            room: s.room.or(Some(x)),
+            ..s
         };
     }
     if has_name(disk, x, name) {
-        return Sight {
-            named: true,
-            line: x,
-            vacant: s.vacant,
-            room: s.room,
-        };
+        return Sight { line: Some(x), ..s };
     }
     s
 }
@@ -161,13 +109,11 @@ fn see_page(disk: &[u8], name: &[u8], before: Sight, p: Place) -> Sight
 
 // Nothing found.
 fn no_sight() -> Sight
-    ensures { result ≡ record { named = false; line = 0; vacant = false; room = 0 } }
+    ensures { result ≡ record { line = None; room = None } }
 {
     Sight {
-        named: false,
-        line: 0,
-        vacant: false,
-        room: 0,
+        line: None,
+        room: None,
     }
 }
 
@@ -179,14 +125,12 @@ fn look(disk: &[u8], name: &[u8]) -> Sight
     let most = chain_budget(16);
     let mut p = first_page(disk, 16);
     let mut s = no_sight();
-    let mut k: u16 = 0;
-    while k < most {
+    for _turn in 0..most {
         s = see_page(disk, name, s, p);
         if last_page(disk, 16, p) {
             return s;
         }
         p = link_of(disk, 16, p);
-        k += 1;
     }
     s
 }
@@ -195,14 +139,12 @@ fn look(disk: &[u8], name: &[u8]) -> Sight
 fn free_pairs(disk: &[u8], p: Place, table: &mut [u8])
     ensures { PairsFreed (pairs_of 16 disk.now p) table.old table.new }
 {
-    let mut i: u8 = 0;
-    while i < MAX_PAIRS {
+    for i in 0..MAX_PAIRS {
         let q = parse_track_sector_pair(disk, 16, p, i);
         if q.track.0 == 0 {
             return;
         }
         mark_sector(table, q, true);
-        i += 1;
     }
 }
 
@@ -221,14 +163,12 @@ fn free_lists(disk: &[u8], first: Place, table: &mut [u8])
 {
     let most = chain_budget(16);
     let mut p = first;
-    let mut k: u16 = 0;
-    while k < most {
+    for _turn in 0..most {
         free_list(disk, p, table);
         if last_list(disk, 16, p) {
             return;
         }
         p = link_of(disk, 16, p);
-        k += 1;
     }
 }
 
@@ -255,51 +195,46 @@ fn erase(disk: &mut [u8], x: usize)
     copy_at(&old, disk, x + 32);
 }
 
-// The refusals that a save and a delete begin with: 1 to 6, 20, 14, and 23 where a side asks; 0 where there is none.
-fn name_refusal(disk: &[u8], asker: Asker, name: &[u8]) -> u8
-    ensures { result ≡ number (name_allowed 16 disk.now asker name.now) }
+// What a save and a delete begin with: refusals 1 to 6, 20, 14, and 23 where a side asks.
+fn name_allowed(disk: &[u8], asker: Option<Asker>, name: &[u8]) -> Result<(), Refusal>
+    ensures { result ≡ bare (name_allowed 16 disk.now asker name.now) }
 {
-    let number = tidy_refusal(disk);
-    if number != 0 {
-        return number;
-    }
+    tidy(disk)?;
     if !savable_name(name) {
-        return UNWRITABLE_NAME;
+        return Err(Refusal::UnwritableName);
     }
     if !may_name(asker, name) {
-        return OTHER_SIDE;
+        return Err(Refusal::OtherSide);
     }
-    0
+    Ok(())
 }
 
 // Deletes the last entry of the name, locked or not; refusals 1 to 6, 20, 14, 23 where a side asks, 18.
-fn delete_by(disk: &mut [u8], asker: Asker, name: &[u8]) -> u8
+fn delete_by(disk: &mut [u8], asker: Option<Asker>, name: &[u8]) -> Result<(), Refusal>
     ensures { Amended (deleted_by 16 disk.old asker name.now) disk.old disk.new result }
 {
-    let number = name_refusal(disk, asker, name);
-    if number != 0 {
-        return number;
+    name_allowed(disk, asker, name)?;
+    match look(disk, name).line {
+        None => Err(Refusal::NotOnRoll),
+        Some(x) => {
+            erase(disk, x);
+            Ok(())
+        }
     }
-    let s = look(disk, name);
-    if !s.named {
-        return NOT_ON_ROLL;
-    }
-    erase(disk, s.line);
-    0
 }
 
 // Deletes the last entry of the name, locked or not: Req 09; refusals 1 to 6, 20, 14, 18.
-pub fn delete(disk: &mut [u8], name: &[u8]) -> u8
+pub fn delete(disk: &mut [u8], name: &[u8]) -> Result<(), Refusal>
     ensures { Amended (deleted 16 disk.old name.now) disk.old disk.new result }
 {
-    delete_by(disk, no_side(), name)
+    delete_by(disk, None, name)
 }
 
 // .. for a side: Req 10; refusals 1 to 6, 20, 14, 23, 18. Its limit is not looked at.
-pub fn delete_for(disk: &mut [u8], side: Side, limit: u64, name: &[u8]) -> u8
+pub fn delete_for(disk: &mut [u8], side: Side, limit: u64, name: &[u8]) -> Result<(), Refusal>
     ensures { Amended (deleted_for 16 disk.old side limit name.now) disk.old disk.new result }
 {
-    delete_by(disk, one_side(side, limit), name)
+    delete_by(disk, Some(Asker { side, limit }), name)
 }
 
 // Data sectors for k bytes: address and length stand before them.
@@ -336,7 +271,7 @@ fn write_entry(disk: &mut [u8], x: usize, places: &[u8], name: &[u8], count: u16
         sector: Sector(byte_at(places, 1)),
     };
     let mut record = [0u8; 35];
-    file_entry_as_vec(list, 4, false, name, count, &mut record);
+    let _ = file_entry_as_vec(list, 4, false, name, count, &mut record);
     copy_at(&record, disk, x);
 }
 
@@ -350,69 +285,73 @@ fn put_file(disk: &mut [u8], x: usize, places: &[u8], name: &[u8], address: u16,
 }
 
 // Stores a file in the line from x on: its sectors are sought first, and only then the first byte is written; refusal 21.
-fn store(disk: &mut [u8], x: usize, name: &[u8], address: u16, data: &[u8]) -> u8
+fn store(disk: &mut [u8], x: usize, name: &[u8], address: u16, data: &[u8]) -> Result<(), Refusal>
     requires { Storable disk.old x name.now «data».now }
     ensures { Amended (saved_at 16 disk.old x name.now address «data».now) disk.old disk.new result }
 {
     let mut table = vtoc_copy(disk);
     let mut places = [0u8; 262];
     if !take_sectors(&mut table, &mut places, sectors_for(data.len())) {
-        return NO_SPACE;
+        return Err(Refusal::NoSpace);
     }
     copy_at(&table, disk, 69632);
     put_file(disk, x, &places, name, address, data);
-    0
+    Ok(())
 }
 
 // The end of a save, the lines having been looked along: refusal 21 for data over 32,768, for the lines, for the sectors.
-fn settle(disk: &mut [u8], s: Sight, name: &[u8], address: u16, data: &[u8]) -> u8
+fn settle(disk: &mut [u8], s: Sight, name: &[u8], address: u16, data: &[u8]) -> Result<(), Refusal>
     requires { Seated disk.old name.now s }
     ensures { Amended (stored 16 disk.old name.now address «data».now) disk.old disk.new result }
 {
     if 32768 < data.len() {
-        return NO_SPACE;
+        return Err(Refusal::NoSpace);
     }
-    if !s.vacant {
-        return NO_SPACE;
+    match s.room {
+        None => Err(Refusal::NoSpace),
+        Some(x) => store(disk, x, name, address, data),
     }
-    store(disk, s.room, name, address, data)
 }
 
 // Whether a file of k bytes more is over the limit of the side that asks.
-fn over_limit(disk: &[u8], asker: Asker, k: usize) -> bool
+fn over_limit(disk: &[u8], asker: Option<Asker>, k: usize) -> bool
     ensures { result ≡ over_limit disk.now asker k }
 {
-    if !asker.sided {
-        return false;
+    match asker {
+        None => false,
+        Some(a) => {
+            let m = data_for(k);
+            a.limit < count_held(disk, 16, a.side) + (lists_for(m) + m) as u64
+        }
     }
-    let side = asker.side;
-    let m = data_for(k);
-    asker.limit < count_held(disk, 16, side) + (lists_for(m) + m) as u64
 }
 
 // Saves a Binary file, unlocked; refusals 1 to 6, 20, 14, 23 where a side asks, 22, 24 where one does, 21.
-fn save_by(disk: &mut [u8], asker: Asker, name: &[u8], address: u16, data: &[u8]) -> u8
+fn save_by(
+    disk: &mut [u8],
+    asker: Option<Asker>,
+    name: &[u8],
+    address: u16,
+    data: &[u8],
+) -> Result<(), Refusal>
     ensures { Amended (saved_by 16 disk.old asker name.now address «data».now) disk.old disk.new result }
 {
-    let number = name_refusal(disk, asker, name);
-    if number != 0 {
-        return number;
-    }
+    name_allowed(disk, asker, name)?;
     let s = look(disk, name);
-    if s.named {
-        return NAME_TAKEN;
+    if s.line.is_some() {
+        return Err(Refusal::NameTaken);
     }
     if over_limit(disk, asker, data.len()) {
-        return OVER_LIMIT;
+        return Err(Refusal::OverLimit);
     }
     settle(disk, s, name, address, data)
 }
 
 // Saves a Binary file, unlocked: Req 09; refusals 1 to 6, 20, 14, 22, 21.
-pub fn save(disk: &mut [u8], name: &[u8], address: u16, data: &[u8]) -> u8
+pub fn save(disk: &mut [u8], name: &[u8], address: u16, data: &[u8]) -> Result<(), Refusal>
     ensures { Amended (saved 16 disk.old name.now address «data».now) disk.old disk.new result }
 {
-    save_by(disk, no_side(), name, address, data)
+    save_by(disk, None, name, address, data)
 }
 
 // .. for a side, within its limit of sectors: Req 10; refusals 1 to 6, 20, 14, 23, 22, 24, 21.
@@ -423,8 +362,8 @@ pub fn save_for(
     name: &[u8],
     address: u16,
     data: &[u8],
-) -> u8
+) -> Result<(), Refusal>
     ensures { Amended (saved_for 16 disk.old side limit name.now address «data».now) disk.old disk.new result }
 {
-    save_by(disk, one_side(side, limit), name, address, data)
+    save_by(disk, Some(Asker { side, limit }), name, address, data)
 }

@@ -17,10 +17,22 @@
 #![tactic(auto)]
 
 use lists::{byte_at, copy_at, fill_at, part, same};
+use outcome::Refusal;
 use sides::{Side, count_held};
 use trial::{
-    number, place, place_16, poke, print, print_hex, print_line, print_number, refusal_line, sum_of,
+    filled, number, place_16, poke, print, print_hex, print_line, print_number, refusal_line,
+    shown, sum_of,
 };
+
+// The bytes of the longest data.
+const LONGEST: usize = 40000;
+
+// The side that asks, with its limit.
+#[derive(Clone, Copy)]
+struct Asker {
+    side: Side,
+    limit: u64,
+}
 
 // The name at hand: its length, and its bytes.
 fn asked(name: &[u8]) -> &[u8] {
@@ -125,78 +137,81 @@ fn show_changes(old: &[u8], new: &[u8]) {
     show_sectors(old, new);
 }
 
-// Space for the longest data. What it holds is not promised, so that lending it costs no proof.
-fn long() -> [u8; 40000] {
-    [0; 40000]
-}
-
-fn names() -> [u8; 64] {
-    [0; 64]
-}
-
 fn show_file(disk: &[u8], name: &[u8], data: &[u8]) {
-    let mut out = long();
-    let h = files::fetch(disk, name, &mut out);
-    refusal_line(b"  file: refusal", h.refusal);
-    print_number(b"  length", h.length as u64);
-    print_line(b", as saved", same(part(&out, 0, h.length), data) as u64);
+    let mut out: [u8; LONGEST] = filled(0);
+    let answer = files::fetch(disk, name, &mut out);
+    let n = shown(b"  file: refusal", answer, 0);
+    print_number(b"  length", n as u64);
+    print_line(b", as saved", same(part(&out, 0, n), data) as u64);
+}
+
+fn is_clean(disk: &[u8]) -> bool {
+    holders::holders(disk).is_ok_and(|h| h.clean)
 }
 
 fn show_state(disk: &[u8], name: &[u8], data: &[u8]) {
     print_number(b"  last track", byte_at(disk, place_16(17, 0, 48)) as u64);
     print_line(b", direction", byte_at(disk, place_16(17, 0, 49)) as u64);
-    print_line(b"  clean", holders::holders(disk).clean as u64);
+    print_line(b"  clean", is_clean(disk) as u64);
     show_file(disk, name, data);
 }
 
-// Who asks is the number SSAABB of a step 28: whether a side does, which, and its limit.
-fn sided(who: usize) -> bool {
-    65536 <= who
-}
-
-fn side_of(who: usize) -> Side {
-    if who / 65536 % 2 == 0 {
-        return Side::Survey;
+fn save(
+    disk: &mut [u8],
+    name: &[u8],
+    data: &[u8],
+    who: Option<Asker>,
+    address: u16,
+) -> Result<(), Refusal> {
+    match who {
+        Some(a) => saving::save_for(disk, a.side, a.limit, name, address, data),
+        None => saving::save(disk, name, address, data),
     }
-    Side::Ours
 }
 
-fn limit_of(who: usize) -> u64 {
-    if 0x800000 <= who {
-        return 0xFFFFFFFFFFFFFFFF;
+fn delete(disk: &mut [u8], name: &[u8], who: Option<Asker>) -> Result<(), Refusal> {
+    match who {
+        Some(a) => saving::delete_for(disk, a.side, a.limit, name),
+        None => saving::delete(disk, name),
     }
-    (who % 65536) as u64
 }
 
-fn save(disk: &mut [u8], name: &[u8], data: &[u8], who: usize, address: u16) -> u8 {
-    if sided(who) {
-        return saving::save_for(disk, side_of(who), limit_of(who), name, address, data);
-    }
-    saving::save(disk, name, address, data)
-}
-
-fn delete(disk: &mut [u8], name: &[u8], who: usize) -> u8 {
-    if sided(who) {
-        return saving::delete_for(disk, side_of(who), limit_of(who), name);
-    }
-    saving::delete(disk, name)
-}
-
-// A save, or a delete: its number.
-fn amend(disk: &mut [u8], name: &[u8], data: &[u8], who: usize, step: [u8; 6]) -> u8 {
+// A save, or a delete: its answer.
+fn amend(
+    disk: &mut [u8],
+    name: &[u8],
+    data: &[u8],
+    who: Option<Asker>,
+    step: [u8; 6],
+) -> Result<(), Refusal> {
     if step[0] == 0x24 {
-        let r = save(disk, name, data, who, number(step[2], step[3]) as u16);
-        refusal_line(b"save: refusal", r);
-        return r;
+        let answer = save(disk, name, data, who, number(step[2], step[3]) as u16);
+        refusal_line(b"save: refusal", &answer);
+        return answer;
     }
-    let r = delete(disk, name, who);
-    refusal_line(b"delete: refusal", r);
-    r
+    let answer = delete(disk, name, who);
+    refusal_line(b"delete: refusal", &answer);
+    answer
 }
 
-// What each side holds, where a side asked and the disk was not refused as 1 to 6.
-fn show_sides(disk: &[u8], who: usize, r: u8) {
-    if !sided(who) | (0 < r) & (r <= 6) {
+// The disk was refused as 1 to 6.
+fn not_read(answer: Result<(), Refusal>) -> bool {
+    match answer {
+        Err(
+            Refusal::OffSize
+            | Refusal::NoTable
+            | Refusal::OffDisc
+            | Refusal::Ring
+            | Refusal::CutLink
+            | Refusal::BadLetter,
+        ) => true,
+        _ => false,
+    }
+}
+
+// What each side holds, where a side asked and the disk was read.
+fn show_sides(disk: &[u8], who: Option<Asker>, answer: Result<(), Refusal>) {
+    if who.is_none() || not_read(answer) {
         return;
     }
     print_number(b"  sectors of ours", count_held(disk, 16, Side::Ours));
@@ -206,19 +221,19 @@ fn show_sides(disk: &[u8], who: usize, r: u8) {
     );
 }
 
-fn show_amended(disk: &mut [u8], name: &[u8], data: &[u8], who: usize, step: [u8; 6]) {
+fn show_amended(disk: &mut [u8], name: &[u8], data: &[u8], who: Option<Asker>, step: [u8; 6]) {
     let mut old = trial::disk();
     copy_at(disk, &mut old, 0);
-    let r = amend(disk, name, data, who, step);
+    let answer = amend(disk, name, data, who, step);
     show_changes(part(&old, 0, disk.len()), disk);
-    if r == 0 {
+    if answer.is_ok() {
         show_state(disk, name, data);
     }
-    show_sides(disk, who, r);
+    show_sides(disk, who, answer);
 }
 
 // On the disk of 16 sectors a track.
-fn show_whole(disks: &mut [u8], name: &[u8], data: &[u8], who: usize, step: [u8; 6]) {
+fn show_whole(disks: &mut [u8], name: &[u8], data: &[u8], who: Option<Asker>, step: [u8; 6]) {
     let mut copy = trial::disk();
     copy_at(part(disks, 0, 143360), &mut copy, 0);
     show_amended(&mut copy, name, data, who, step);
@@ -227,14 +242,11 @@ fn show_whole(disks: &mut [u8], name: &[u8], data: &[u8], who: usize, step: [u8;
 
 // How many bytes are lent of a disk of another size.
 fn lent_size(edition: u8) -> usize {
-    if edition == 13 {
-        return 116480;
-    }
-    143359
+    if edition == 13 { 116480 } else { 143359 }
 }
 
 // On a disk of another size; what becomes of it is only shown.
-fn show_front(disks: &[u8], name: &[u8], data: &[u8], who: usize, step: [u8; 6]) {
+fn show_front(disks: &[u8], name: &[u8], data: &[u8], who: Option<Asker>, step: [u8; 6]) {
     let mut copy = trial::disk();
     copy_at(laying::disk_of(disks, step[1]), &mut copy, 0);
     let size = lent_size(step[1]);
@@ -243,7 +255,7 @@ fn show_front(disks: &[u8], name: &[u8], data: &[u8], who: usize, step: [u8; 6])
     }
 }
 
-fn show_lent(disks: &mut [u8], name: &[u8], data: &[u8], who: usize, step: [u8; 6]) {
+fn show_lent(disks: &mut [u8], name: &[u8], data: &[u8], who: Option<Asker>, step: [u8; 6]) {
     let bytes = part(data, 0, number(step[4], step[5]));
     if step[1] == 16 {
         show_whole(disks, name, bytes, who, step);
@@ -278,9 +290,9 @@ fn try_track(disk: &[u8], name: &[u8], step: [u8; 6], track: u8) {
     poke(&mut copy, place_16(17, 0, 49), step[2]);
     laying::put_map(&mut copy, track, step[3], step[4]);
     match saving::save(&mut copy, name, 0, b"") {
-        0 => show_found(&copy, track),
-        21 => print(b"."),
-        _ => print(b"!"),
+        Ok(()) => show_found(&copy, track),
+        Err(Refusal::NoSpace) => print(b"."),
+        Err(_) => print(b"!"),
     }
 }
 
@@ -309,7 +321,7 @@ fn letters(step: [u8; 6]) {
 }
 
 // The steps that show something.
-fn show(disks: &mut [u8], name: &[u8], data: &[u8], who: usize, step: [u8; 6]) {
+fn show(disks: &mut [u8], name: &[u8], data: &[u8], who: Option<Asker>, step: [u8; 6]) {
     match step[0] {
         0x24..=0x25 => show_lent(disks, asked(name), data, who, step),
         0x26 => try_tracks(disks, asked(name), step),
@@ -318,7 +330,7 @@ fn show(disks: &mut [u8], name: &[u8], data: &[u8], who: usize, step: [u8; 6]) {
     }
 }
 
-fn act(disks: &mut [u8], name: &mut [u8], data: &mut [u8], who: usize, step: [u8; 6]) {
+fn act(disks: &mut [u8], name: &mut [u8], data: &mut [u8], who: Option<Asker>, step: [u8; 6]) {
     match step[0] {
         0..=2 | 0x15 | 0x23 => laying::change(disks, step),
         0x20 => set_name(name, step[1], step[2]),
@@ -329,32 +341,42 @@ fn act(disks: &mut [u8], name: &mut [u8], data: &mut [u8], who: usize, step: [u8
     }
 }
 
-// Who asks after a step.
-fn asker(who: usize, step: [u8; 6]) -> usize {
-    if step[0] == 0x28 {
-        return place(step[1], step[2], step[3]);
+fn side_of(number: u8) -> Side {
+    if number % 2 == 0 {
+        Side::Survey
+    } else {
+        Side::Ours
     }
-    who
 }
 
-fn run(disks: &mut [u8], name: &mut [u8], data: &mut [u8]) {
-    let mut left: u32 = 100000;
-    let mut who: usize = 0;
-    while left > 0 {
-        let s = trial::next_step();
-        if !s.more {
-            return;
-        }
-        let step = s.bytes;
-        who = asker(who, step);
-        act(disks, name, data, who, step);
-        left -= 1;
+fn limit_of(step: [u8; 6]) -> u64 {
+    if 0x80 <= step[1] {
+        return u64::MAX;
     }
+    number(step[2], step[3]) as u64
+}
+
+// Who asks after a step.
+fn who_asks(who: Option<Asker>, step: [u8; 6]) -> Option<Asker> {
+    if step[0] != 0x28 {
+        return who;
+    }
+    if step[1] == 0 {
+        return None;
+    }
+    Some(Asker {
+        side: side_of(step[1]),
+        limit: limit_of(step),
+    })
 }
 
 fn main() {
     let mut disks = laying::disks();
-    let mut name = names();
-    let mut data = long();
-    run(&mut disks, &mut name, &mut data);
+    let mut name: [u8; 64] = filled(0);
+    let mut data: [u8; LONGEST] = filled(0);
+    let mut who: Option<Asker> = None;
+    trial::run_script(|step| {
+        who = who_asks(who, step);
+        act(&mut disks, &mut name, &mut data, who, step);
+    });
 }

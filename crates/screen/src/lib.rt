@@ -1,13 +1,14 @@
-// What the program writes, to a descriptor: text, numbers, locations and refusals here, names in `names`, JSON in `json`. `sums` has what its parts count with.
+// What the program writes, to a descriptor: text, numbers, locations and refusals here, names in `names`, JSON in `json`. How a command ends. `seen` has the sectors that its walks met, `space` what is lent to the library.
 #![tactic(auto)]
 
 pub mod json;
 pub mod names;
-pub mod sums;
-
-ghost use Rattle.std.specs.Prelude.{◌≤◌};
+pub mod seen;
+pub mod space;
 
 use disk::{Place, Sector, Track, sector_start};
+use outcome::Refusal;
+use std::alloc::{AllocError, AllocFailed};
 use std::fmt;
 use std::fmt::Write;
 use std::io::{Error, ErrorKind};
@@ -19,12 +20,28 @@ pub const STDOUT_FILENO: i32 = 1;
 
 pub const STDERR_FILENO: i32 = 2;
 
-// The exit statuses.
-pub const GOOD: u8 = 0;
+// Why a command does not end well. What is wrong was said before, but where memory is short.
+#[derive(Clone, Copy, Debug, PartialEq, Eq)]
+pub enum Failure {
+    // a disk, stream, archive or plan is refused, a disk is not clean, or there is no space for a save
+    Refused,
+    // bad usage, or a file that cannot be read or written
+    Trouble,
+    // the system gives no more memory
+    OutOfMemory,
+}
 
-pub const REFUSED: u8 = 1;
+impl From<AllocError> for Failure {
+    fn from(_: AllocError) -> Failure {
+        Failure::OutOfMemory
+    }
+}
 
-pub const TROUBLE: u8 = 2;
+impl<T: Drop> From<AllocFailed<T>> for Failure {
+    fn from(_: AllocFailed<T>) -> Failure {
+        Failure::OutOfMemory
+    }
+}
 
 pub fn text(fd: i32, s: &[u8]) {
     io::write_all(fd, s);
@@ -48,19 +65,16 @@ struct Reason {
 impl Write for Reason {
     fn write_str(&mut self, s: &str) -> fmt::Result {
         lists::copy_at(s.as_bytes(), &mut self.letters, self.length);
-        self.length = sums::after(self.length, s.len());
+        self.length = self.length.saturating_add(s.len());
         Ok(())
     }
 }
 
-// How much of what an error says is the system's reason: behind it stands the reason's number.
-fn reason_length(s: &[u8]) -> usize {
-    for k in 0..128usize {
-        if lists::same(lists::part(s, k, 11), b" (os error ") {
-            return k;
-        }
-    }
-    s.len()
+// The system's reason of an error: behind it stands the reason's number.
+fn system_reason(said: &[u8]) -> &[u8] {
+    let number = b" (os error ";
+    let length = said.windows(11).position(|part| part == number.as_slice());
+    lists::part(said, 0, length.unwrap_or(said.len()))
 }
 
 // The end of a line that says what could not be done: the system's reason.
@@ -70,30 +84,24 @@ pub fn fail(e: Error) {
         length: 0,
     };
     let _ = write!(reason, "{e}");
-    let said = lists::part(&reason.letters, 0, reason.length);
     tell(b": ");
-    tell(lists::part(said, 0, reason_length(said)));
+    tell(system_reason(lists::part(&reason.letters, 0, reason.length)));
     tell(b"\n");
 }
 
 // Says that standard output cannot be written to; nothing where nobody reads it.
-fn not_written(e: Error) {
+fn not_written(e: Error) -> Failure {
     if let ErrorKind::BrokenPipe = e.kind() {
-        return;
+        return Failure::Trouble;
     }
     tell(b"linefiles: cannot write to standard output");
     fail(e);
+    Failure::Trouble
 }
 
-// The end of what a command prints: its exit status, 0, or 2 where that cannot be written, which is said.
-pub fn finish(rt: &HostRuntime, s: &[u8]) -> u8 {
-    match rt.write_all(s) {
-        Ok(()) => GOOD,
-        Err(e) => {
-            not_written(e);
-            TROUBLE
-        },
-    }
+// The end of what a command prints. Where it cannot be written, this is said.
+pub fn finish(rt: &HostRuntime, s: &[u8]) -> Result<(), Failure> {
+    rt.write_all(s).map_err(|e| not_written(e))
 }
 
 pub fn number(fd: i32, n: u64) {
@@ -108,43 +116,24 @@ pub fn text_number(fd: i32, s: &[u8], n: u64) {
 
 // At most 40 spaces.
 pub fn spaces(fd: i32, n: usize) {
-    text(
-        fd,
-        lists::part(b"                                        ", 0, n),
-    );
-}
-
-// What is left of a column.
-fn rest(width: usize, n: usize) -> usize {
-    if n < width {
-        return width - n;
-    }
-    0
+    text(fd, lists::part(&[b' '; 40], 0, n));
 }
 
 // A number at the right edge of a column.
 pub fn right(fd: i32, n: u64, width: usize) {
     let mut digits = [0u8; 20];
     let k = io::decimal(n, &mut digits);
-    spaces(fd, rest(width, k));
+    spaces(fd, width.saturating_sub(k));
     text(fd, &digits[..k]);
-}
-
-// Text at the left edge of a column.
-pub fn left(fd: i32, s: &[u8], width: usize) {
-    text(fd, s);
-    spaces(fd, rest(width, s.len()));
 }
 
 // How many digits a byte has.
 fn digits_of(n: u8) -> usize {
-    if n < 10 {
-        return 1;
+    match n {
+        0..=9 => 1,
+        10..=99 => 2,
+        _ => 3,
     }
-    if n < 100 {
-        return 2;
-    }
-    3
 }
 
 pub fn vtoc() -> Place {
@@ -160,9 +149,9 @@ pub fn sector_number(per: u8, p: Place) -> usize {
 }
 
 pub fn place(fd: i32, p: Place) {
-    number(fd, p.track.0 as u64);
+    number(fd, u64::from(p.track.0));
     text(fd, b"/");
-    number(fd, p.sector.0 as u64);
+    number(fd, u64::from(p.sector.0));
 }
 
 // Text, then a location.
@@ -174,90 +163,65 @@ pub fn text_place(fd: i32, s: &[u8], p: Place) {
 // A location at the left edge of a column of 9.
 pub fn place_column(fd: i32, p: Place) {
     place(fd, p);
-    spaces(
-        fd,
-        rest(rest(8, digits_of(p.track.0)), digits_of(p.sector.0)),
-    );
+    let width = digits_of(p.track.0).saturating_add(digits_of(p.sector.0));
+    spaces(fd, 8usize.saturating_sub(width));
 }
 
 // A number of things: one, or any other number of them.
 pub fn count(fd: i32, n: u64, one: &[u8], many: &[u8]) {
     number(fd, n);
     text(fd, b" ");
-    if n == 1 {
-        text(fd, one);
-        return;
-    }
-    text(fd, many);
-}
-
-// Where the letters of a type stand in `letters`.
-fn kind_place(kind: u8) -> usize {
-    match kind {
-        0 => 0,
-        1 => 2,
-        2 => 4,
-        4 => 6,
-        8 => 8,
-        10 => 10,
-        20 => 12,
-        40 => 14,
-        _ => 16,
-    }
-}
-
-// How many letters a type has.
-fn kind_width(kind: u8) -> usize
-    ensures { result ≤ 2 }
-{
-    match kind {
-        20 | 40 => 2,
-        _ => 1,
-    }
+    text(fd, if n == 1 { one } else { many });
 }
 
 // The letters of a type: the Rust's.
-pub fn kind_letters(fd: i32, kind: u8) {
-    text(
-        fd,
-        lists::part(b"T I A B S R ATBTU ", kind_place(kind), kind_width(kind)),
-    );
+pub fn kind_letters(kind: u8) -> &'static str {
+    match kind {
+        0 => "T",
+        1 => "I",
+        2 => "A",
+        4 => "B",
+        8 => "S",
+        10 => "R",
+        20 => "AT",
+        40 => "BT",
+        _ => "U",
+    }
 }
 
 // Lock, type and sector count of an entry, under the heads of `heads`.
-pub fn entry_columns(fd: i32, locked: u8, kind: u8, sectors: u16) {
-    if locked == 0 {
-        text(fd, b"       ");
-    } else {
+pub fn entry_columns(fd: i32, locked: bool, kind: u8, sectors: u16) {
+    if locked {
         text(fd, b"  *    ");
+    } else {
+        text(fd, b"       ");
     }
-    kind_letters(fd, kind);
-    right(fd, sectors as u64, 12 - kind_width(kind));
+    let letters = kind_letters(kind).as_bytes();
+    text(fd, letters);
+    right(
+        fd,
+        u64::from(sectors),
+        12usize.saturating_sub(letters.len()),
+    );
 }
 
 // The number of bytes, under its head; - where there are none to hand over, or none are known.
-pub fn bytes_column(fd: i32, known: bool, n: u64) {
-    if known {
-        right(fd, n, 9);
-        return;
+pub fn bytes_column(fd: i32, bytes: Option<u64>) {
+    match bytes {
+        Some(n) => right(fd, n, 9),
+        None => text(fd, b"        -"),
     }
-    text(fd, b"        -");
 }
 
 pub fn heads(fd: i32) {
     text(fd, b"  lock type sectors    bytes  name\n");
 }
 
-fn word(fd: i32, w: outcome::Word) {
-    let letters = w.0;
-    text(fd, lists::part(&letters, 0, w.1 as usize));
-}
-
 // The front of a refusal: the paper's number and word. What is told of it stands on lines of its own.
-pub fn refusal(fd: i32, why: u8) {
-    text_number(fd, b"refused: ", why as u64);
+pub fn refusal(fd: i32, why: Refusal) {
+    text_number(fd, b"refused: ", u64::from(u8::from(why)));
     text(fd, b" ");
-    word(fd, outcome::refusal_word(why));
+    text(fd, why.word().as_bytes());
 }
 
 // Only a Binary hands over bytes.

@@ -10,8 +10,10 @@ use lib.Dec.{leb}
 use Rattle.lists.specs.Select.{any, filter}
 use Rattle.lists.proofs.Split.{by_test, and_false}
 use Rattle.lists.proofs.Equal.{same_eq}
+use Rattle.std.specs.Prelude.{Ok, Err}
 use Rattle.outcome.specs.declared.Refusal.TheVariants.{UnwritableName, NotOnRoll, NoSpace, NameTaken, OtherSide}
-use Rattle.outcome.specs.Outcome.{Outcome, refused, given, ◌>>◌, require, number}
+use Rattle.outcome.specs.Outcome.{Outcome, ◌>>◌, require}
+use Rattle.outcome.proofs.Silent.{silent}
 use Rattle.catalog.specs.Catalog.{live, shown, entry_from}
 use Rattle.amend.specs.Lines.{savable, starts, is_named, open_line, holds_name}
 use Rattle.amend.specs.Save.{Part, take_for, saved_at, stored, removed, deleted}
@@ -45,31 +47,31 @@ chain A B T w o = require A UnwritableName >> require B OtherSide >> require T N
 
 -- accepted, or 21
 abbrev Free : Outcome (List ℕ) → Type 0
-Free o = (number o ≡ 0) ⊎ (number o ≡ 21)
+Free o = (silent o ≡ Ok tt) ⊎ (o ≡ Err NoSpace)
 
-free_same : (o o' : Outcome (List ℕ)) → Free o → Free o' → (number o ≡ 21 → ⊥) → (number o' ≡ 21 → ⊥) → number o' ≡ number o
+free_same : (o o' : Outcome (List ℕ)) → Free o → Free o' → (o ≡ Err NoSpace → ⊥) → (o' ≡ Err NoSpace → ⊥) → silent o' ≡ silent o
 free_same o o' (inl a) (inl b) h h' = b ∙ sym a
 free_same o o' (inl a) (inr b) h h' = absurd (h' b)
 free_same o o' (inr a) b h h' = absurd (h a)
 
 chain_same : (A B T T' : Bool) (w : Outcome (Unit {0})) (o o' : Outcome (List ℕ)) → (B ≡ true → T' ≡ T) → Free o → Free o'
-    → (number (chain A B T w o) ≡ 21 → ⊥) → (number (chain A B T' w o') ≡ 21 → ⊥) → number (chain A B T' w o') ≡ number (chain A B T w o)
+    → (chain A B T w o ≡ Err NoSpace → ⊥) → (chain A B T' w o' ≡ Err NoSpace → ⊥) → silent (chain A B T' w o') ≡ silent (chain A B T w o)
 chain_same false B T T' w o o' q f f' h h' = refl
 chain_same true false T T' w o o' q f f' h h' = refl
 chain_same true true T T' w o o' q f f' h h' = go T T' w (q refl) h h'
   where
-    go : (T T' : Bool) (w : Outcome (Unit {0})) → T' ≡ T → (number (chain true true T w o) ≡ 21 → ⊥) → (number (chain true true T' w o') ≡ 21 → ⊥)
-        → number (chain true true T' w o') ≡ number (chain true true T w o)
+    go : (T T' : Bool) (w : Outcome (Unit {0})) → T' ≡ T → (chain true true T w o ≡ Err NoSpace → ⊥) → (chain true true T' w o' ≡ Err NoSpace → ⊥)
+        → silent (chain true true T' w o') ≡ silent (chain true true T w o)
     go false T' w z k k' = rw z refl
     go true false w z k k' = absurd (Rattle.lists.proofs.Split.clash z)
-    go true true (refused r) z k k' = refl
-    go true true (given u) z k k' = free_same o o' f f' k k'
+    go true true (Err r) z k k' = refl
+    go true true (Ok u) z k k' = free_same o o' f f' k k'
 
 -- the tests of a delete
 abbrev pub undo : (A B : Bool) → Outcome (List ℕ) → Outcome (List ℕ)
 undo A B o = require A UnwritableName >> require B OtherSide >> o
 
-undo_same : (A B : Bool) (o o' : Outcome (List ℕ)) → (A ≡ true → B ≡ true → number o' ≡ number o) → number (undo A B o') ≡ number (undo A B o)
+undo_same : (A B : Bool) (o o' : Outcome (List ℕ)) → (A ≡ true → B ≡ true → silent o' ≡ silent o) → silent (undo A B o') ≡ silent (undo A B o)
 undo_same false B o o' q = refl
 undo_same true false o o' q = refl
 undo_same true true o o' q = q refl refl
@@ -85,33 +87,33 @@ module _ (n : ℕ) (d : List ℕ) (r : Reading n d) where
       ⊎_elim (λ w. go q w.1 w.2 (take_for n (length bytes) d) refl) (λ w. inr (rw (q, w.1) refl)) (opened n d r (reading_tidy n d r)))
       (λ q. inr (rw q refl))
     where
-      go : leb (length bytes) 32768 ≡ true → (x : ℕ) → open_line n d ≡ given x → (o : Outcome (List Part × List ℕ)) → take_for n (length bytes) d ≡ o → Free (stored n d name address bytes)
-      go q x l (refused b) h = let z : b ≡ NoSpace = take_refused n (length bytes) d b h in inr (rw (q, l, h, z) refl)
-      go q x l (given b) h = inl (rw (q, l, h) refl)
+      go : leb (length bytes) 32768 ≡ true → (x : ℕ) → open_line n d ≡ Ok x → (o : Outcome (List Part × List ℕ)) → take_for n (length bytes) d ≡ o → Free (stored n d name address bytes)
+      go q x l (Err b) h = let z : b ≡ NoSpace = take_refused n (length bytes) d b h in inr (rw (q, l, h, z) refl)
+      go q x l (Ok b) h = inl (rw (q, l, h) refl)
 
   -- the end of a delete, by the list of lines
-  removed_number : (name : List ℕ) → savable name ≡ true → number (removed n d name) ≡ number (require (any (holds_name name) r.ls) NotOnRoll)
-  removed_number name a = go (removed n d name) refl
+  removed_silent : (name : List ℕ) → savable name ≡ true → silent (removed n d name) ≡ silent (require (any (holds_name name) r.ls) NotOnRoll)
+  removed_silent name a = go (removed n d name) refl
     where
       is : deleted n d name ≡ removed n d name
       is = delete_is n d r (reading_tidy n d r) name ∙ rw a refl
 
-      go : (o : Outcome (List ℕ)) → removed n d name ≡ o → number o ≡ number (require (any (holds_name name) r.ls) NotOnRoll)
-      go (refused q) h =
+      go : (o : Outcome (List ℕ)) → removed n d name ≡ o → silent o ≡ silent (require (any (holds_name name) r.ls) NotOnRoll)
+      go (Err q) h =
           let k = delete_answers n d r (reading_tidy n d r) name q (is ∙ h) in
-          let z : require (any (holds_name name) r.ls) NotOnRoll ≡ refused q = rw a at k in
+          let z : require (any (holds_name name) r.ls) NotOnRoll ≡ Err q = rw a at k in
           rw z refl
-      go (given e) h =
+      go (Ok e) h =
           let k = delete_accepts n d r (reading_tidy n d r) name e (is ∙ h) in
-          let z : require (any (holds_name name) r.ls) NotOnRoll ≡ given tt = rw a at k in
+          let z : require (any (holds_name name) r.ls) NotOnRoll ≡ Ok tt = rw a at k in
           rw z refl
 
   -- a name of the side, by its own lines
-  pub owns_is : (s : Side) (name : List ℕ) → belongs s name ≡ true → owns_name n d s name ≡ given (any (holds_name name) r.ls)
+  pub owns_is : (s : Side) (name : List ℕ) → belongs s name ≡ true → owns_name n d s name ≡ Ok (any (holds_name name) r.ls)
   unfolding owns_name own_entries own_lines
   owns_is s name own =
       rw r.paged
-      (ap given
+      (ap Ok
       (sym (each_any n d (holds_name name) (is_line n d name) (line_name n d name) (starts n r.ps) r.ls r.files ∙ any_own d s name own n (starts n r.ps))))
 
   -- the calls
@@ -134,30 +136,30 @@ module _ (n : ℕ) (d e : List ℕ) (r : Reading n d) (t : Reading n e) (s : Sid
   unfolding within
   within_same k = rw o.count refl
 
-  save_alike : (name : List ℕ) (address : ℕ) (bytes : List ℕ) → (number (saved_for n d s limit name address bytes) ≡ 21 → ⊥)
-      → (number (saved_for n e s limit name address bytes) ≡ 21 → ⊥) → number (saved_for n e s limit name address bytes) ≡ number (saved_for n d s limit name address bytes)
+  save_alike : (name : List ℕ) (address : ℕ) (bytes : List ℕ) → (saved_for n d s limit name address bytes ≡ Err NoSpace → ⊥)
+      → (saved_for n e s limit name address bytes ≡ Err NoSpace → ⊥) → silent (saved_for n e s limit name address bytes) ≡ silent (saved_for n d s limit name address bytes)
   save_alike name address bytes h h' =
       let x = save_chain n d r s limit name address bytes in
       let y : saved_for n e s limit name address bytes
       ≡ chain (savable name) (belongs s name) (not (any (holds_name name) t.ls)) (within n d s limit (length bytes)) (stored n e name address bytes) =
       save_chain n e t s limit name address bytes
       ∙ ap (λ (w : Outcome (Unit {0})). chain (savable name) (belongs s name) (not (any (holds_name name) t.ls)) w (stored n e name address bytes)) (within_same (length bytes)) in
-      ap number y
+      ap silent y
       ∙ chain_same (savable name) (belongs s name) (not (any (holds_name name) r.ls)) (not (any (holds_name name) t.ls)) (within n d s limit (length bytes))
       (stored n d name address bytes) (stored n e name address bytes) (λ own. ap not (names_same name own)) (stored_free n d r name address bytes) (stored_free n e t name address bytes)
-      (λ k. h (ap number x ∙ k)) (λ k. h' (ap number y ∙ k))
-      ∙ sym (ap number x)
+      (λ k. h (x ∙ k)) (λ k. h' (y ∙ k))
+      ∙ sym (ap silent x)
 
-  delete_alike : (name : List ℕ) → number (deleted_for n e s limit name) ≡ number (deleted_for n d s limit name)
+  delete_alike : (name : List ℕ) → silent (deleted_for n e s limit name) ≡ silent (deleted_for n d s limit name)
   delete_alike name =
-      ap number (delete_chain n e t s limit name)
+      ap silent (delete_chain n e t s limit name)
       ∙ undo_same (savable name) (belongs s name) (removed n d name) (removed n e name)
       (λ a own.
-      removed_number n e t name a ∙ ap (λ (b : Bool). number (require b NotOnRoll)) (names_same name own) ∙ sym (removed_number n d r name a))
-      ∙ sym (ap number (delete_chain n d r s limit name))
+      removed_silent n e t name a ∙ ap (λ (b : Bool). silent (require b NotOnRoll)) (names_same name own) ∙ sym (removed_silent n d r name a))
+      ∙ sym (ap silent (delete_chain n d r s limit name))
 
-  pub op_alike : (op : Op) → (number (call_of n d s limit op) ≡ 21 → ⊥) → (number (call_of n e s limit op) ≡ 21 → ⊥)
-      → number (call_of n e s limit op) ≡ number (call_of n d s limit op)
+  pub op_alike : (op : Op) → (call_of n d s limit op ≡ Err NoSpace → ⊥) → (call_of n e s limit op ≡ Err NoSpace → ⊥)
+      → silent (call_of n e s limit op) ≡ silent (call_of n d s limit op)
   op_alike (Amending.Op.save name address bytes) h h' = save_alike name address bytes h h'
   op_alike (Amending.Op.delete name) h h' = delete_alike name
 

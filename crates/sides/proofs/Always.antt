@@ -14,9 +14,10 @@ use Rattle.lists.specs.Fill.{Bytes, put}
 use Rattle.lists.specs.Select.{any, among}
 use Rattle.lists.proofs.Split.{by_test, both_true}
 use Rattle.lists.proofs.Select.{any_same}
+use Rattle.std.specs.Prelude.{Ok, Err}
 use Rattle.outcome.specs.declared.Refusal.TheVariants.{NotOnRoll, NoSpace}
-use Rattle.outcome.specs.Refusal.{code}
-use Rattle.outcome.specs.Outcome.{Outcome, refused, given, ◌>>=◌, each, number}
+use Rattle.outcome.specs.Outcome.{Outcome, ◌>>=◌, each}
+use Rattle.outcome.proofs.Silent.{silent}
 use Rattle.outcome.proofs.Outcome.{each_cons, each_same}
 use Rattle.disk.specs.declared.Place.{Place}
 use Rattle.disk.specs.Disk.{start, number_of, sectors}
@@ -54,29 +55,29 @@ use Rattle.sides.proofs.Twin.{vtoc_apart, entries_same, pages_same, holds_same, 
 
 -- ---- two answers: refused alike, or disks that agree
 abbrev Twins : ℕ → (ℕ → Type 0) → Outcome (List ℕ) → Outcome (List ℕ) → Type 0
-Twins L P (refused r) (refused q) = r ≡ q
-Twins L P (refused r) (given b) = ⊥
-Twins L P (given a) (refused q) = ⊥
-Twins L P (given a) (given b) = Agree L P a b
+Twins L P (Err r) (Err q) = r ≡ q
+Twins L P (Err r) (Ok b) = ⊥
+Twins L P (Ok a) (Err q) = ⊥
+Twins L P (Ok a) (Ok b) = Agree L P a b
 
-twins_number : (L : ℕ) (P : ℕ → Type 0) (o w : Outcome (List ℕ)) → Twins L P o w → number w ≡ number o
-twins_number L P (refused r) (refused q) h = ap code (sym h)
-twins_number L P (refused r) (given b) h = absurd h
-twins_number L P (given a) (refused q) h = absurd h
-twins_number L P (given a) (given b) h = refl
+twins_silent : (L : ℕ) (P : ℕ → Type 0) (o w : Outcome (List ℕ)) → Twins L P o w → silent w ≡ silent o
+twins_silent L P (Err r) (Err q) h = ap Err (sym h)
+twins_silent L P (Err r) (Ok b) h = absurd h
+twins_silent L P (Ok a) (Err q) h = absurd h
+twins_silent L P (Ok a) (Ok b) h = refl
 
 twins_kept : {L : ℕ} {P : ℕ → Type 0} (d e : List ℕ) (o w : Outcome (List ℕ)) → Agree L P d e → Twins L P o w → Agree L P (kept d o) (kept e w)
-twins_kept d e (refused r) (refused q) a h = a
-twins_kept d e (refused r) (given b) a h = absurd h
-twins_kept d e (given x) (refused q) a h = absurd h
-twins_kept d e (given x) (given b) a h = h
+twins_kept d e (Err r) (Err q) a h = a
+twins_kept d e (Err r) (Ok b) a h = absurd h
+twins_kept d e (Ok x) (Err q) a h = absurd h
+twins_kept d e (Ok x) (Ok b) a h = h
 
 chain_twins : (L : ℕ) (P : ℕ → Type 0) (A B T : Bool) (w : Outcome (Unit {0})) (o o' : Outcome (List ℕ)) → Twins L P o o' → Twins L P (chain A B T w o) (chain A B T w o')
 chain_twins L P false B T w o o' h = refl
 chain_twins L P true false T w o o' h = refl
 chain_twins L P true true false w o o' h = refl
-chain_twins L P true true true (refused r) o o' h = refl
-chain_twins L P true true true (given u) o o' h = h
+chain_twins L P true true true (Err r) o o' h = refl
+chain_twins L P true true true (Ok u) o o' h = h
 
 undo_twins : (L : ℕ) (P : ℕ → Type 0) (A B : Bool) (o o' : Outcome (List ℕ)) → Twins L P o o' → Twins L P (undo A B o) (undo A B o')
 undo_twins L P false B o o' h = refl
@@ -84,7 +85,7 @@ undo_twins L P true false o o' h = refl
 undo_twins L P true true o o' h = h
 
 module _ (n : ℕ) (some' : 0 < n) (few : n ≤ 16) (d e : List ℕ) (c : Clean n d) (r : Reading n d) (s : Side) (ps : List Place)
-    (theirs : own_data n d (other s) ≡ given ps) (diff : DifferIn n ps d e) where
+    (theirs : own_data n d (other s) ≡ Ok ps) (diff : DifferIn n ps d e) where
   abbrev P : ℕ → Type 0
   P i = among (i / 256) (map (number_of n) ps) ≡ false
 
@@ -113,7 +114,7 @@ module _ (n : ℕ) (some' : 0 < n) (few : n ≤ 16) (d e : List ℕ) (c : Clean 
   entries : Every (λ (y : ℕ). entry_from e y ≡ entry_from d y) (starts n r.ps)
   entries = entries_same n some' d e r (other s) diff.size outside
 
-  paged : pages n e ≡ given r.ps
+  paged : pages n e ≡ Ok r.ps
   paged = pages_same n some' d e r (other s) diff.size outside
 
   holds : Every (λ (y : ℕ). line_holds n e y ≡ line_holds n d y) (starts n r.ps)
@@ -147,19 +148,19 @@ module _ (n : ℕ) (some' : 0 < n) (few : n ≤ 16) (d e : List ℕ) (c : Clean 
 
   -- ---- it holds as much
   own_all : {ys : List ℕ} (us : List (List Place)) → Every (λ (y : ℕ). entry_from e y ≡ entry_from d y) ys → Every (λ (y : ℕ). line_holds n e y ≡ line_holds n d y) ys
-      → each (line_holds n d) ys ≡ given us → Every (λ (y : ℕ). own_at n e s y ≡ own_at n d s y) ys
+      → each (line_holds n d) ys ≡ Ok us → Every (λ (y : ℕ). own_at n e s y ≡ own_at n d s y) ys
   own_all us Every.none Every.none h = Every.none
   own_all us (Every.more {x} {xs} p pp) (Every.more q qq) h =
       let k = each_cons (line_holds n d) x xs us h in
       Every.more
-      (own_is n e s x k.0 (q ∙ k.2) ∙ ap (λ (y : Entry). given (cond (of_side s y) k.0 [])) p ∙ sym (own_is n d s x k.0 k.2))
+      (own_is n e s x k.0 (q ∙ k.2) ∙ ap (λ (y : Entry). Ok (cond (of_side s y) k.0 [])) p ∙ sym (own_is n d s x k.0 k.2))
       (own_all k.1 pp qq k.3)
 
   sectors_same : own_sectors n e s ≡ own_sectors n d s
   unfolding own_sectors
   sectors_same =
       rw (paged, r.paged)
-      (ap (λ (o : Outcome (List (List Place))). o >>= λ ts. given (flat_map (λ t. t) ts)) (each_same (own_at n e s) (own_at n d s) (own_all r.us entries holds r.holds)))
+      (ap (λ (o : Outcome (List (List Place))). o >>= λ ts. Ok (flat_map (λ t. t) ts)) (each_same (own_at n e s) (own_at n d s) (own_all r.us entries holds r.holds)))
 
   within_same : (limit k : ℕ) → within n e s limit k ≡ within n d s limit k
   unfolding within held_by
@@ -169,7 +170,7 @@ module _ (n : ℕ) (some' : 0 < n) (few : n ≤ 16) (d e : List ℕ) (c : Clean 
   fits : (x : ℕ) (a b : List ℕ) → starts n r.ps ≡ a ++ x ∷ b → x + 35 ≤ L
   fits x a b split = let f = line_fits n some' d size r a x b split in let l : length d ≡ L = size in omega arith
 
-  made : (x : ℕ) (name : List ℕ) (address : ℕ) (bytes : List ℕ) → x + 35 ≤ L → (gs : List Part) (m m' : List ℕ) → take_for n (length bytes) d ≡ given (gs, m) → Agree L P m m'
+  made : (x : ℕ) (name : List ℕ) (address : ℕ) (bytes : List ℕ) → x + 35 ≤ L → (gs : List Part) (m m' : List ℕ) → take_for n (length bytes) d ≡ Ok (gs, m) → Agree L P m m'
       → Agree L P (put x (entry_record (first_list gs) 4 false name (length gs + length (data_of gs))) (written n (file_writes gs address bytes) m))
       (put x (entry_record (first_list gs) 4 false name (length gs + length (data_of gs))) (written n (file_writes gs address bytes) m'))
   made x name address bytes f gs m m' took a =
@@ -194,12 +195,12 @@ module _ (n : ℕ) (some' : 0 < n) (few : n ≤ 16) (d e : List ℕ) (c : Clean 
       (λ q. rw q refl)
     where
       go : (x : ℕ) → x + 35 ≤ L → (o w : Outcome (List Part × List ℕ)) → take_for n (length bytes) d ≡ o → Both L P o w
-          → Twins L P (o >>= λ v. given (put x (entry_record (first_list v.0) 4 false name (length v.0 + length (data_of v.0))) (written n (file_writes v.0 address bytes) v.1)))
-          (w >>= λ v. given (put x (entry_record (first_list v.0) 4 false name (length v.0 + length (data_of v.0))) (written n (file_writes v.0 address bytes) v.1)))
-      go x f (refused a) (refused b) h z = z
-      go x f (refused a) (given b) h z = absurd z
-      go x f (given a) (refused b) h z = absurd z
-      go x f (given a) (given b) h z =
+          → Twins L P (o >>= λ v. Ok (put x (entry_record (first_list v.0) 4 false name (length v.0 + length (data_of v.0))) (written n (file_writes v.0 address bytes) v.1)))
+          (w >>= λ v. Ok (put x (entry_record (first_list v.0) 4 false name (length v.0 + length (data_of v.0))) (written n (file_writes v.0 address bytes) v.1)))
+      go x f (Err a) (Err b) h z = z
+      go x f (Err a) (Ok b) h z = absurd z
+      go x f (Ok a) (Err b) h z = absurd z
+      go x f (Ok a) (Ok b) h z =
           subst
           (λ (gs : List Part).
           Agree L P (put x (entry_record (first_list a.0) 4 false name (length a.0 + length (data_of a.0))) (written n (file_writes a.0 address bytes) a.1))
@@ -207,15 +208,15 @@ module _ (n : ℕ) (some' : 0 < n) (few : n ≤ 16) (d e : List ℕ) (c : Clean 
           z.0 (made x name address bytes f a.0 a.1 b.1 h z.1)
 
   -- ---- and so is what is deleted
-  sectors_of_lem : (x : ℕ) (u : List Place) → in_use d x ≡ true → entry_from e x ≡ entry_from d x → line_holds n e x ≡ line_holds n d x → line_holds n d x ≡ given u
-      → (sectors_of n d (entry_from d x) ≡ given u) × (sectors_of n e (entry_from e x) ≡ given u)
+  sectors_of_lem : (x : ℕ) (u : List Place) → in_use d x ≡ true → entry_from e x ≡ entry_from d x → line_holds n e x ≡ line_holds n d x → line_holds n d x ≡ Ok u
+      → (sectors_of n d (entry_from d x) ≡ Ok u) × (sectors_of n e (entry_from e x) ≡ Ok u)
   unfolding line_holds
   sectors_of_lem x u l p q h =
       let l' : in_use e x ≡ true = ap live p ∙ l in
       let k = q ∙ h in
       (rw l at h, rw l' at k)
 
-  erased : (x : ℕ) (u : List Place) → x + 35 ≤ L → entry_from e x ≡ entry_from d x → sectors_of n d (entry_from d x) ≡ given u → sectors_of n e (entry_from e x) ≡ given u
+  erased : (x : ℕ) (u : List Place) → x + 35 ≤ L → entry_from e x ≡ entry_from d x → sectors_of n d (entry_from d x) ≡ Ok u → sectors_of n e (entry_from e x) ≡ Ok u
       → Twins L P (deleted_at n d x) (deleted_at n e x)
   unfolding deleted_at
   erased x u f p h h' =
@@ -230,8 +231,8 @@ module _ (n : ℕ) (some' : 0 < n) (few : n ≤ 16) (d e : List ℕ) (c : Clean 
   removed_twins name = subst (λ (o : Outcome ℕ). Twins L P (removed n d name) (o >>= λ x. deleted_at n e x)) (sym (line_same name)) (go (line_of n d name) refl)
     where
       go : (o : Outcome ℕ) → line_of n d name ≡ o → Twins L P (o >>= λ x. deleted_at n d x) (o >>= λ x. deleted_at n e x)
-      go (refused q) h = refl
-      go (given x) h =
+      go (Err q) h = refl
+      go (Ok x) h =
           let l = last_split (is_line n d name) (starts n r.ps) x (line_of_lem n d name r.ps x r.paged h) in
           let p = every_here l.0 x l.1 (subst (Every (λ (y : ℕ). entry_from e y ≡ entry_from d y)) l.2 entries) in
           let q = every_here l.0 x l.1 (subst (Every (λ (y : ℕ). line_holds n e y ≡ line_holds n d y)) l.2 holds) in
@@ -256,16 +257,16 @@ module _ (n : ℕ) (some' : 0 < n) (few : n ≤ 16) (d e : List ℕ) (c : Clean 
       (undo_twins L P (savable name) (belongs s name) (removed n d name) (removed n e name) (removed_twins name)))
 
   -- the other's data sectors stay where they are
-  still_is : (limit : ℕ) (op : Op) → OfBytes op → own_data n (kept d (call_of n d s limit op)) (other s) ≡ given ps
+  still_is : (limit : ℕ) (op : Op) → OfBytes op → own_data n (kept d (call_of n d s limit op)) (other s) ≡ Ok ps
   still_is limit op b = go (call_of n d s limit op) refl
     where
-      go : (o : Outcome (List ℕ)) → call_of n d s limit op ≡ o → own_data n (kept d o) (other s) ≡ given ps
-      go (refused q) h = theirs
-      go (given f) h =
+      go : (o : Outcome (List ℕ)) → call_of n d s limit op ≡ o → own_data n (kept d o) (other s) ≡ Ok ps
+      go (Err q) h = theirs
+      go (Ok f) h =
           let k = effect n some' few d c s limit op b f h in
           data_stays n d f k.old k.front k.line k.back k.changed (other s) k.was_other k.is_other ∙ theirs
 
-pub twin_clean : (n : ℕ) (some' : 0 < n) (few : n ≤ 16) (d e : List ℕ) → Clean n d → Bytes e → (s : Side) → (ps : List Place) → own_data n d s ≡ given ps
+pub twin_clean : (n : ℕ) (some' : 0 < n) (few : n ≤ 16) (d e : List ℕ) → Clean n d → Bytes e → (s : Side) → (ps : List Place) → own_data n d s ≡ Ok ps
     → DifferIn n ps d e → Clean n e
 twin_clean n some' few d e c b s ps h diff =
     let r = (reading_of n some' few d c).0 in
@@ -274,14 +275,14 @@ twin_clean n some' few d e c b s ps h diff =
     clean_of n some' few e b
     (twin n some' d e r s diff.size (λ i w. diff.outside i (ap (λ (l : List Place). among (i / 256) (map (number_of n) l)) q ∙ w))).0
 
-pub always_is : (n : ℕ) (some' : 0 < n) (few : n ≤ 16) (d e : List ℕ) → Clean n d → (a : Call) → BytesIn a → (ps : List Place) → own_data n d (other a.side) ≡ given ps
+pub always_is : (n : ℕ) (some' : 0 < n) (few : n ≤ 16) (d e : List ℕ) → Clean n d → (a : Call) → BytesIn a → (ps : List Place) → own_data n d (other a.side) ≡ Ok ps
     → DifferIn n ps d e → AlikeAlways n ps d e a
 always_is n some' few d e c a b ps h diff =
     let r = (reading_of n some' few d c).0 in
     let w = op_twins n some' few d e c r a.side ps h diff a.limit a.op in
     let k = twins_kept d e (answer n d a) (answer n e a) (agree n some' few d e c r a.side ps h diff) w in
     record {
-      answers = twins_number _ _ (answer n d a) (answer n e a) w;
+      answers = twins_silent _ _ (answer n d a) (answer n e a) w;
       leaves = record { size = k.size_e ∙ sym k.size_d; outside = k.at };
       still = still_is n some' few d e c r a.side ps h diff a.limit a.op b;
     }

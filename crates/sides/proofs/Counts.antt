@@ -17,8 +17,10 @@ use Rattle.lists.specs.Select.{all}
 use Rattle.lists.proofs.Split.{by_test, both_true}
 use Rattle.lists.proofs.Laws.{tab_suc}
 use Rattle.lists.proofs.Chunks.{flat_map_append}
+use Rattle.std.specs.Prelude.{Ok, Err}
+use Rattle.outcome.specs.declared.Refusal.{Refusal}
 use Rattle.outcome.specs.declared.Refusal.TheVariants.{OffDisc}
-use Rattle.outcome.specs.Outcome.{Outcome, refused, given, ◌>>=◌, ◌>>◌, require, each}
+use Rattle.outcome.specs.Outcome.{Outcome, ◌>>=◌, ◌>>◌, require, each}
 use Rattle.outcome.proofs.Outcome.{gives, each_append, each_cons}
 use Rattle.disk.specs.declared.Place.{Place}
 use Rattle.disk.specs.Disk.{start, on_disk, link_of, sectors}
@@ -67,6 +69,11 @@ begins_shown (x ∷ xs) = go (letter x) (trimmed (map letter xs))
         (λ t. rw t refl)
 
 -- ---- a line
+-- the sectors of a chain of lists; none where it is refused
+abbrev thread_count : Outcome Thread → ℕ
+thread_count (Err r) = 0
+thread_count (Ok t) = t.lists + t.pairs
+
 module _ (n : ℕ) (d : List ℕ) (s : Side) where
   first_raw : (x : ℕ) → get_or (entry_from d x).raw 0 0 ≡ get_or d (x + 3) 0
   first_raw x = get_or-take 30 (drop (x + 3) d) 0 0 (omega arith) ∙ get_or-drop (x + 3) d 0 0 ∙ ap (λ (i : ℕ). get_or d i 0) (omega arith)
@@ -98,25 +105,32 @@ module _ (n : ℕ) (d : List ℕ) (s : Side) where
       let b = length-append (pairs_of n d l) (flat_map (pairs_of n d) ls) in
       omega arith
 
-  thread_many : (p : Place) (t : Thread) → t ≡ followed n d (list_walk n d p) → t.lists + t.pairs ≡ many (sectors_from n d p)
+  -- a chain of lists that is followed, and one that is refused
+  thread_many : (p : Place) (o : Outcome Thread) → o ≡ followed n d (list_walk n d p) → thread_count o ≡ many (sectors_from n d p)
   unfolding sectors_from
   thread_many p t e = go (list_walk n d p) e
     where
       go : (o : Outcome (List Place)) → t ≡ followed n d o
-          → t.lists + t.pairs ≡ many (o >>= λ ls. require (all (on_disk n) (flat_map (pairs_of n d) ls)) OffDisc >> given (flat_map (with_pairs n d) ls))
-      go (refused r) q = ap (λ (u : Thread). u.lists + u.pairs) q
-      go (given ls) q =
-          ap (λ (u : Thread). u.lists + u.pairs) q
+          → thread_count t ≡ many (o >>= λ ls. require (all (on_disk n) (flat_map (pairs_of n d) ls)) OffDisc >> Ok (flat_map (with_pairs n d) ls))
+      go (Err r) q = ap thread_count q
+      go (Ok ls) q =
+          ap thread_count q
           ∙ by_test (all (on_disk n) (flat_map (pairs_of n d) ls)) (λ z. rw z (sym (length_with ls))) (λ z. rw z refl)
 
   pub line_other : (x : ℕ) (v : Bool) → v ≡ of_side s (entry_from d x) → v ≡ false → 0 ≡ line_count n d s x
   unfolding line_count own_at
   line_other x v e z = rw (← e, z) refl
 
-  pub line_own : (x : ℕ) (v : Bool) (p : Place) (t : Thread) → t ≡ followed n d (list_walk n d p) → p ≡ (entry_from d x).list → v ≡ of_side s (entry_from d x) → v ≡ true
-      → t.lists + t.pairs ≡ line_count n d s x
-  unfolding line_count own_at sectors_of
-  line_own x v p t f g e z = rw (← e, z) (thread_many p t f ∙ ap (λ (q : Place). many (sectors_from n d q)) g)
+  module _ (x : ℕ) (v : Bool) (p : Place) (g : p ≡ (entry_from d x).list) (e : v ≡ of_side s (entry_from d x)) (z : v ≡ true) where
+    line_own : (o : Outcome Thread) → o ≡ followed n d (list_walk n d p) → thread_count o ≡ line_count n d s x
+    unfolding line_count own_at sectors_of
+    line_own o f = rw (← e, z) (thread_many p o f ∙ ap (λ (q : Place). many (sectors_from n d q)) g)
+
+    pub line_followed : (t : Thread) → Ok t ≡ followed n d (list_walk n d p) → t.lists + t.pairs ≡ line_count n d s x
+    line_followed t f = line_own (Ok t) f
+
+    pub line_refused : (r : Refusal) → Err r ≡ followed n d (list_walk n d p) → 0 ≡ line_count n d s x
+    line_refused r f = line_own (Err r) f
 
   -- ---- a page
   pub record Lining (p : Place) (i m : ℕ) : Type 0 where
@@ -218,13 +232,13 @@ module _ (n : ℕ) (d : List ℕ) (s : Side) where
   abbrev lines_on : Place → List ℕ
   lines_on p = map (line_on p) (below 7)
 
-  line_many : (x : ℕ) (u : List Place) → own_at n d s x ≡ given u → line_count n d s x ≡ length u
+  line_many : (x : ℕ) (u : List Place) → own_at n d s x ≡ Ok u → line_count n d s x ≡ length u
   unfolding line_count
   line_many x u h = rw h refl
 
   -- two runs of lines
-  two_runs : (xs ys : List ℕ) (ts : List (List Place)) → each (own_at n d s) (xs ++ ys) ≡ given ts
-      → (a : List (List Place)) × (b : List (List Place)) × (each (own_at n d s) xs ≡ given a) × (each (own_at n d s) ys ≡ given b)
+  two_runs : (xs ys : List ℕ) (ts : List (List Place)) → each (own_at n d s) (xs ++ ys) ≡ Ok ts
+      → (a : List (List Place)) × (b : List (List Place)) × (each (own_at n d s) xs ≡ Ok a) × (each (own_at n d s) ys ≡ Ok b)
       × (length (flat_map (λ t. t) ts) ≡ length (flat_map (λ (t : List Place). t) a) + length (flat_map (λ (t : List Place). t) b))
   two_runs xs ys ts h =
       let g = gives (each (own_at n d s) xs) _ ts (sym (each_append (own_at n d s) xs ys) ∙ h) in
@@ -239,7 +253,7 @@ module _ (n : ℕ) (d : List ℕ) (s : Side) where
             ∙ length-append (flat_map (λ t. t) g.0) (flat_map (λ t. t) k.0),
       )
 
-  page_many : (p : Place) (i : ℕ) (ts : List (List Place)) → each (own_at n d s) (map (line_on p) (below i)) ≡ given ts
+  page_many : (p : Place) (i : ℕ) (ts : List (List Place)) → each (own_at n d s) (map (line_on p) (below i)) ≡ Ok ts
       → lines_count n d s p i ≡ length (flat_map (λ (t : List Place). t) ts)
   unfolding lines_count tab each flat_map
   page_many p zero ts h = let e : [] ≡ ts = given_same refl h in ap (λ (l : List (List Place)). length (flat_map (λ t. t) l)) e
@@ -273,7 +287,7 @@ module _ (n : ℕ) (d : List ℕ) (s : Side) where
       no_none : ◌≡◌ {A = Option Place} none (some q) → ⊥
       no_none e = let z : ◌≡◌ {A = ℕ} 0 1 = cc in omega arith
 
-  pages_many : {p : Place} {ps : List Place} → Chained n (sound_page n d) (next_page n d) p ps → (ts : List (List Place)) → each (own_at n d s) (starts n ps) ≡ given ts
+  pages_many : {p : Place} {ps : List Place} → Chained n (sound_page n d) (next_page n d) p ps → (ts : List (List Place)) → each (own_at n d s) (starts n ps) ≡ Ok ts
       → (j : ℕ) → onward (length ps + j) p ≡ length (flat_map (λ (t : List Place). t) ts)
   unfolding over_pages page_count starts flat_map each
   pages_many {p} (Chain.end r l) ts h j =
@@ -293,7 +307,7 @@ module _ (n : ℕ) (d : List ℕ) (s : Side) where
       let y = g.4 in
       ap (λ (k : ℕ). onward k p) (let w : suc (length ps) + j ≡ suc (length ps + j) = omega arith in w) ∙ e ∙ omega arith
 
-  pub counted : (m : ℕ) → held_by n d s ≡ given m → tally n d s ≡ m
+  pub counted : (m : ℕ) → held_by n d s ≡ Ok m → tally n d s ≡ m
   unfolding held_by own_sectors tally pages
   counted m h =
       let f = gives (own_sectors n d s) _ m h in
@@ -309,7 +323,7 @@ module _ (n : ℕ) (d : List ℕ) (s : Side) where
 
 pub ruleset letters = (letter_survey, letter_ours, name_is, rules)
 
-pub ruleset lines = (side_idle, side_live, line_other, line_own, not-true, not-false, rules)
+pub ruleset lines = (side_idle, side_live, line_other, line_followed, line_refused, not-true, not-false, rules)
 
 pub ruleset linings = (lining_none, lining_more, lining_fits, lining_done, lining_small, rules)
 

@@ -9,7 +9,8 @@ use borrow.Author.Tests.{eqb-true, eqb-false}
 use Rattle.lists.specs.Every.{Every}
 use Rattle.lists.proofs.Split.{by_test, both_true}
 use Rattle.lists.proofs.Chunks.{every_append}
-use Rattle.outcome.specs.Outcome.{Outcome, given, ◌>>=◌, each}
+use Rattle.std.specs.Prelude.{Ok}
+use Rattle.outcome.specs.Outcome.{Outcome, ◌>>=◌, each}
 use Rattle.outcome.proofs.Outcome.{each_cons, each_same}
 use Rattle.disk.specs.declared.Place.{Place}
 use Rattle.disk.specs.Disk.{number_of}
@@ -49,8 +50,8 @@ module _ (n : ℕ) (d : List ℕ) where
     rest_at x = cond (of_side s (entry_from d x)) (lists n d (entry_from d x)) (line_holds n d x)
 
     -- one line
-    line_parts : (y : ℕ) (u : List Place) → line_holds n d y ≡ given u
-        → (q : List Place) × (p : List Place) × (rest_at y ≡ given q) × (own_data_at n d s y ≡ given p) × ((k : ℕ) → held n u k ≡ held n q k + held n p k)
+    line_parts : (y : ℕ) (u : List Place) → line_holds n d y ≡ Ok u
+        → (q : List Place) × (p : List Place) × (rest_at y ≡ Ok q) × (own_data_at n d s y ≡ Ok p) × ((k : ℕ) → held n u k ≡ held n q k + held n p k)
         × (On n u → On n q)
     unfolding rest_at own_data_at line_holds
     line_parts y u h =
@@ -67,19 +68,19 @@ module _ (n : ℕ) (d : List ℕ) where
         ))
         (λ t. (u, [], rw t h, rw t refl, λ k. let z = held_none n k in omega arith, λ e. e))
       where
-        data_yes : (ls : List Place) → of_side s (entry_from d y) ≡ true → lists n d (entry_from d y) ≡ given ls → own_data_at n d s y ≡ given (flat_map (pairs_of n d) ls)
+        data_yes : (ls : List Place) → of_side s (entry_from d y) ≡ true → lists n d (entry_from d y) ≡ Ok ls → own_data_at n d s y ≡ Ok (flat_map (pairs_of n d) ls)
         data_yes ls t g = rw (t, g) refl
 
     -- all lines
     pub record Divided (ys : List ℕ) (us : List (List Place)) : Type 0 where
       pub rest : List (List Place)
       pub data' : List (List Place)
-      pub rest_is : each rest_at ys ≡ given rest
-      pub data_is : each (own_data_at n d s) ys ≡ given data'
+      pub rest_is : each rest_at ys ≡ Ok rest
+      pub data_is : each (own_data_at n d s) ys ≡ Ok data'
       pub sum : (k : ℕ) → held n (flat_map (λ t. t) us) k ≡ held n (flat_map (λ t. t) rest) k + held n (flat_map (λ t. t) data') k
       pub part : Every (On n) us → Every (On n) rest
 
-    pub divide : (ys : List ℕ) (us : List (List Place)) → each (line_holds n d) ys ≡ given us → Divided ys us
+    pub divide : (ys : List ℕ) (us : List (List Place)) → each (line_holds n d) ys ≡ Ok us → Divided ys us
     unfolding each flat_map
     divide [] us h =
         let z : us ≡ [] = cc in
@@ -103,21 +104,21 @@ module _ (n : ℕ) (d : List ℕ) where
           part = λ e. let v = parted (subst (Every (On n)) c.4 e) in Every.more (l.5 v.0) (i.part v.1);
         }
       where
-        one : {D : Type 0} (g : ℕ → Outcome D) (w : D) (l : List D) → g y ≡ given w → each g ys ≡ given l → each g (y ∷ ys) ≡ given (w ∷ l)
+        one : {D : Type 0} (g : ℕ → Outcome D) (w : D) (l : List D) → g y ≡ Ok w → each g ys ≡ Ok l → each g (y ∷ ys) ≡ Ok (w ∷ l)
         one g w l m k = rw (m, k) refl
 
-    pub data_is_lem : (ps : List Place) (ts : List (List Place)) → pages n d ≡ given ps → each (own_data_at n d s) (starts n ps) ≡ given ts → own_data n d s ≡ given (flat_map (λ t. t) ts)
+    pub data_is_lem : (ps : List Place) (ts : List (List Place)) → pages n d ≡ Ok ps → each (own_data_at n d s) (starts n ps) ≡ Ok ts → own_data n d s ≡ Ok (flat_map (λ t. t) ts)
     unfolding own_data
     data_is_lem ps ts p h = rw (p, h) refl
 
 -- ---- one line changed
 module _ (n : ℕ) (d e : List ℕ) (s : Side) where
-  data_line : (y : ℕ) (u : List Place) → entry_from e y ≡ entry_from d y → Every (Alike n d e) u → line_holds n d y ≡ given u → own_data_at n e s y ≡ own_data_at n d s y
+  data_line : (y : ℕ) (u : List Place) → entry_from e y ≡ entry_from d y → Every (Alike n d e) u → line_holds n d y ≡ Ok u → own_data_at n e s y ≡ own_data_at n d s y
   unfolding line_holds own_data_at
   data_line y u q a h = go (entry_from d y) (entry_from e y) q h
     where
-      go : (x z : Entry) → z ≡ x → cond (live x) (sectors_of n d x) (given []) ≡ given u
-          → cond (of_side s z) (lists n e z >>= λ ls. given (flat_map (pairs_of n e) ls)) (given []) ≡ cond (of_side s x) (lists n d x >>= λ ls. given (flat_map (pairs_of n d) ls)) (given [])
+      go : (x z : Entry) → z ≡ x → cond (live x) (sectors_of n d x) (Ok []) ≡ Ok u
+          → cond (of_side s z) (lists n e z >>= λ ls. Ok (flat_map (pairs_of n e) ls)) (Ok []) ≡ cond (of_side s x) (lists n d x >>= λ ls. Ok (flat_map (pairs_of n d) ls)) (Ok [])
       go x z p v =
           rw p
           (by_test (live x)
@@ -127,12 +128,12 @@ module _ (n : ℕ) (d e : List ℕ) (s : Side) where
           same g.0 g.1 (lists_alike n d e x g.0 w g.1) (all_pairs_alike n d e w))
           (λ c. rw c refl))
         where
-          same : (ls : List Place) → lists n d x ≡ given ls → lists n e x ≡ given ls → flat_map (pairs_of n e) ls ≡ flat_map (pairs_of n d) ls
-              → cond (of_side s x) (lists n e x >>= λ ls. given (flat_map (pairs_of n e) ls)) (given []) ≡ cond (of_side s x) (lists n d x >>= λ ls. given (flat_map (pairs_of n d) ls)) (given [])
+          same : (ls : List Place) → lists n d x ≡ Ok ls → lists n e x ≡ Ok ls → flat_map (pairs_of n e) ls ≡ flat_map (pairs_of n d) ls
+              → cond (of_side s x) (lists n e x >>= λ ls. Ok (flat_map (pairs_of n e) ls)) (Ok []) ≡ cond (of_side s x) (lists n d x >>= λ ls. Ok (flat_map (pairs_of n d) ls)) (Ok [])
           same ls i j k = rw (i, j, k) refl
 
   data_lines : {ys : List ℕ} (us : List (List Place)) → Every (λ (y : ℕ). entry_from e y ≡ entry_from d y) ys → Every (Every (Alike n d e)) us
-      → each (line_holds n d) ys ≡ given us → Every (λ (y : ℕ). own_data_at n e s y ≡ own_data_at n d s y) ys
+      → each (line_holds n d) ys ≡ Ok us → Every (λ (y : ℕ). own_data_at n e s y ≡ own_data_at n d s y) ys
   data_lines us Every.none a h = Every.none
   data_lines us (Every.more {x} {xs} q qs) a h =
       let c = each_cons (line_holds n d) x xs us h in
@@ -141,7 +142,7 @@ module _ (n : ℕ) (d e : List ℕ) (s : Side) where
 
 module _ (n : ℕ) (d e : List ℕ) (r : Reading n d) (a : List ℕ) (x : ℕ) (b : List ℕ) (c : Changed n d e r a x b) (s : Side)
     (was : of_side s (entry_from d x) ≡ false) (is : of_side s (entry_from e x) ≡ false) where
-  data_none : (f : List ℕ) → of_side s (entry_from f x) ≡ false → own_data_at n f s x ≡ given []
+  data_none : (f : List ℕ) → of_side s (entry_from f x) ≡ false → own_data_at n f s x ≡ Ok []
   unfolding own_data_at
   data_none f h = rw h refl
 
@@ -154,4 +155,4 @@ module _ (n : ℕ) (d e : List ℕ) (r : Reading n d) (a : List ℕ) (x : ℕ) (
       every_append (data_lines n d e s p.ua c.before al.0 p.holds_a)
       (Every.more (data_none e is ∙ sym (data_none d was)) (data_lines n d e s p.ub c.after al.1 p.holds_b)) in
       rw (pages_then n d e r a x b c s, r.paged, c.split)
-      (ap (λ (o : Outcome (List (List Place))). o >>= λ ts. given (flat_map (λ t. t) ts)) (each_same (own_data_at n e s) (own_data_at n d s) w))
+      (ap (λ (o : Outcome (List (List Place))). o >>= λ ts. Ok (flat_map (λ t. t) ts)) (each_same (own_data_at n e s) (own_data_at n d s) w))

@@ -10,7 +10,8 @@ use Rattle.lists.specs.Select.{filter}
 use Rattle.lists.proofs.Split.{by_test}
 use Rattle.lists.proofs.Select.{filter_no, filter_append, filter_every, filter_same}
 use Rattle.lists.proofs.Chunks.{every_append, split_every, length_joined}
-use Rattle.outcome.specs.Outcome.{Outcome, given, ◌>>=◌, each}
+use Rattle.std.specs.Prelude.{Ok}
+use Rattle.outcome.specs.Outcome.{Outcome, ◌>>=◌, each}
 use Rattle.outcome.proofs.Outcome.{each_cons, each_also, each_same}
 use Rattle.disk.specs.declared.Place.{Place}
 use Rattle.catalog.specs.Catalog.{Entry, live, entry_from, pages}
@@ -30,39 +31,39 @@ use Rattle.sides.specs.Claims.{KeptFor}
 -- ---- one disk
 module _ (n : ℕ) (d : List ℕ) (s : Side) where
   -- a line that is read: what the side holds there is what the line holds, or nothing
-  pub own_is : (y : ℕ) (u : List Place) → line_holds n d y ≡ given u → own_at n d s y ≡ given (cond (of_side s (entry_from d y)) u [])
+  pub own_is : (y : ℕ) (u : List Place) → line_holds n d y ≡ Ok u → own_at n d s y ≡ Ok (cond (of_side s (entry_from d y)) u [])
   unfolding line_holds own_at
   own_is y u h = go (entry_from d y) h
     where
-      go : (x : Entry) → cond (live x) (sectors_of n d x) (given []) ≡ given u → cond (of_side s x) (sectors_of n d x) (given []) ≡ given (cond (of_side s x) u [])
+      go : (x : Entry) → cond (live x) (sectors_of n d x) (Ok []) ≡ Ok u → cond (of_side s x) (sectors_of n d x) (Ok []) ≡ Ok (cond (of_side s x) u [])
       go x v =
           by_test (live x)
-          (λ c. let k : sectors_of n d x ≡ given u = rw c at v in rw k (both (of_side s x)))
+          (λ c. let k : sectors_of n d x ≡ Ok u = rw c at v in rw k (both (of_side s x)))
           (λ c. rw c refl)
         where
-          both : (b : Bool) → cond b (given u) (given []) ≡ given (cond b u [])
+          both : (b : Bool) → ◌≡◌ {A = Outcome (List Place)} (cond b (Ok u) (Ok [])) (Ok (cond b u []))
           both true = refl
           both false = refl
 
-  own_too : (y : ℕ) (u : List Place) → line_holds n d y ≡ given u → (t : List Place) × (own_at n d s y ≡ given t)
+  own_too : (y : ℕ) (u : List Place) → line_holds n d y ≡ Ok u → (t : List Place) × (own_at n d s y ≡ Ok t)
   own_too y u h = (cond (of_side s (entry_from d y)) u [], own_is y u h)
 
-  pub sectors_are : (ps : List Place) (ts : List (List Place)) → pages n d ≡ given ps → each (own_at n d s) (starts n ps) ≡ given ts → own_sectors n d s ≡ given (flat_map (λ t. t) ts)
+  pub sectors_are : (ps : List Place) (ts : List (List Place)) → pages n d ≡ Ok ps → each (own_at n d s) (starts n ps) ≡ Ok ts → own_sectors n d s ≡ Ok (flat_map (λ t. t) ts)
   unfolding own_sectors
   sectors_are ps ts p h = rw (p, h) refl
 
   -- all that it holds
-  pub own_given : (r : Reading n d) → (ts : List (List Place)) × (each (own_at n d s) (starts n r.ps) ≡ given ts) × (own_sectors n d s ≡ given (flat_map (λ t. t) ts))
+  pub own_given : (r : Reading n d) → (ts : List (List Place)) × (each (own_at n d s) (starts n r.ps) ≡ Ok ts) × (own_sectors n d s ≡ Ok (flat_map (λ t. t) ts))
   own_given r =
       let t = each_also (line_holds n d) (own_at n d s) own_too (starts n r.ps) r.us r.holds in
       (t.0, t.1, sectors_are r.ps t.0 r.paged t.1)
 
-  pub held_is : (ps : List Place) → own_sectors n d s ≡ given ps → held_by n d s ≡ given (length ps)
+  pub held_is : (ps : List Place) → own_sectors n d s ≡ Ok ps → held_by n d s ≡ Ok (length ps)
   unfolding held_by
   held_is ps h = rw h refl
 
   -- what holds of what lines hold holds of what it holds
-  pub own_every : {P : Place → Type 0} (ys : List ℕ) (us ts : List (List Place)) → each (line_holds n d) ys ≡ given us → each (own_at n d s) ys ≡ given ts
+  pub own_every : {P : Place → Type 0} (ys : List ℕ) (us ts : List (List Place)) → each (line_holds n d) ys ≡ Ok us → each (own_at n d s) ys ≡ Ok ts
       → Every (Every P) us → Every (Every P) ts
   unfolding each
   own_every {P} [] us ts h k e = let z : ts ≡ [] = cc in rw z Every.none
@@ -80,20 +81,20 @@ module _ (n : ℕ) (d : List ℕ) (s : Side) where
 -- ---- two disks
 module _ (n : ℕ) (d e : List ℕ) (s : Side) where
   -- a line whose entry and sectors stay
-  own_line : (y : ℕ) (u : List Place) → entry_from e y ≡ entry_from d y → Every (Alike n d e) u → line_holds n d y ≡ given u → own_at n e s y ≡ own_at n d s y
+  own_line : (y : ℕ) (u : List Place) → entry_from e y ≡ entry_from d y → Every (Alike n d e) u → line_holds n d y ≡ Ok u → own_at n e s y ≡ own_at n d s y
   unfolding line_holds own_at
   own_line y u q a h = go (entry_from d y) (entry_from e y) q h
     where
-      go : (x z : Entry) → z ≡ x → cond (live x) (sectors_of n d x) (given []) ≡ given u
-          → cond (of_side s z) (sectors_of n e z) (given []) ≡ cond (of_side s x) (sectors_of n d x) (given [])
+      go : (x z : Entry) → z ≡ x → cond (live x) (sectors_of n d x) (Ok []) ≡ Ok u
+          → cond (of_side s z) (sectors_of n e z) (Ok []) ≡ cond (of_side s x) (sectors_of n d x) (Ok [])
       go x z p v =
           rw p
           (by_test (live x)
-          (λ c. let k : sectors_of n d x ≡ given u = rw c at v in rw (sectors_alike n d e x u a k, k) refl)
+          (λ c. let k : sectors_of n d x ≡ Ok u = rw c at v in rw (sectors_alike n d e x u a k, k) refl)
           (λ c. rw c refl))
 
   own_lines_lem : {ys : List ℕ} (us : List (List Place)) → Every (λ (y : ℕ). entry_from e y ≡ entry_from d y) ys → Every (Every (Alike n d e)) us
-      → each (line_holds n d) ys ≡ given us → Every (λ (y : ℕ). own_at n e s y ≡ own_at n d s y) ys
+      → each (line_holds n d) ys ≡ Ok us → Every (λ (y : ℕ). own_at n e s y ≡ own_at n d s y) ys
   own_lines_lem us Every.none a h = Every.none
   own_lines_lem us (Every.more {x} {xs} q qs) a h =
       let c = each_cons (line_holds n d) x xs us h in
@@ -102,7 +103,7 @@ module _ (n : ℕ) (d e : List ℕ) (s : Side) where
 
 -- ---- one line changed
 module _ (n : ℕ) (d e : List ℕ) (r : Reading n d) (a : List ℕ) (x : ℕ) (b : List ℕ) (c : Changed n d e r a x b) (s : Side) where
-  pub pages_then : pages n e ≡ given r.ps
+  pub pages_then : pages n e ≡ Ok r.ps
   pages_then = changed_pages n d e r a x b c (parts_of n d e r a x b c.split)
 
   pub alikes : Every (Every (Alike n d e)) (parts_of n d e r a x b c.split).ua × Every (Every (Alike n d e)) (parts_of n d e r a x b c.split).ub
@@ -127,9 +128,9 @@ module _ (n : ℕ) (d e : List ℕ) (r : Reading n d) (a : List ℕ) (x : ℕ) (
     unfolding own_lines
     lines_same =
         rw (pages_then, r.paged, c.split)
-        (ap given (filter_same (λ (y : ℕ). of_side s (entry_from e y)) (λ (y : ℕ). of_side s (entry_from d y)) sides_same))
+        (ap Ok (filter_same (λ (y : ℕ). of_side s (entry_from e y)) (λ (y : ℕ). of_side s (entry_from d y)) sides_same))
 
-    own_none : (f : List ℕ) → of_side s (entry_from f x) ≡ false → own_at n f s x ≡ given []
+    own_none : (f : List ℕ) → of_side s (entry_from f x) ≡ false → own_at n f s x ≡ Ok []
     unfolding own_at
     own_none f h = rw h refl
 
@@ -137,13 +138,13 @@ module _ (n : ℕ) (d e : List ℕ) (r : Reading n d) (a : List ℕ) (x : ℕ) (
     unfolding own_sectors
     sectors_same =
         let w : Every (λ (y : ℕ). own_at n e s y ≡ own_at n d s y) (a ++ x ∷ b) = every_append own_before (Every.more (own_none e is ∙ sym (own_none d was)) own_after) in
-        rw (pages_then, r.paged, c.split) (ap (λ (o : Outcome (List (List Place))). o >>= λ ts. given (flat_map (λ t. t) ts)) (each_same (own_at n e s) (own_at n d s) w))
+        rw (pages_then, r.paged, c.split) (ap (λ (o : Outcome (List (List Place))). o >>= λ ts. Ok (flat_map (λ t. t) ts)) (each_same (own_at n e s) (own_at n d s) w))
 
-    line_bytes_lem : (xs : List ℕ) → own_lines n d s ≡ given xs → Every (LineKept d e) xs
+    line_bytes_lem : (xs : List ℕ) → own_lines n d s ≡ Ok xs → Every (LineKept d e) xs
     unfolding own_lines
     line_bytes_lem xs h =
         let f : ℕ → Bool = λ y. of_side s (entry_from d y) in
-        let z : given (filter (λ (y : ℕ). of_side s (entry_from d y)) (a ++ x ∷ b)) ≡ given xs = rw (r.paged, c.split) at h in
+        let z : Ok (filter (λ (y : ℕ). of_side s (entry_from d y)) (a ++ x ∷ b)) ≡ Ok xs = rw (r.paged, c.split) at h in
         let v : filter (λ (y : ℕ). of_side s (entry_from d y)) (a ++ x ∷ b) ≡ xs = cc in
         let w : filter (λ (y : ℕ). of_side s (entry_from d y)) (a ++ x ∷ b) ≡ filter (λ (y : ℕ). of_side s (entry_from d y)) a ++ filter (λ (y : ℕ). of_side s (entry_from d y)) b =
         filter_append (λ (y : ℕ). of_side s (entry_from d y)) a (x ∷ b)
@@ -151,7 +152,7 @@ module _ (n : ℕ) (d e : List ℕ) (r : Reading n d) (a : List ℕ) (x : ℕ) (
         subst (Every (LineKept d e)) (sym w ∙ v)
         (every_append (filter_every (λ (y : ℕ). of_side s (entry_from d y)) keptA) (filter_every (λ (y : ℕ). of_side s (entry_from d y)) keptB))
 
-    sector_bytes_lem : (ps : List Place) → own_sectors n d s ≡ given ps → Every (Alike n d e) ps
+    sector_bytes_lem : (ps : List Place) → own_sectors n d s ≡ Ok ps → Every (Alike n d e) ps
     sector_bytes_lem ps h =
         let g = own_given n d s r in
         let w = own_every n d s (starts n r.ps) r.us g.0 r.holds g.1 c.alike in
@@ -161,15 +162,15 @@ module _ (n : ℕ) (d e : List ℕ) (r : Reading n d) (a : List ℕ) (x : ℕ) (
     kept_for = record { lines = lines_same; line_bytes = line_bytes_lem; sectors = sectors_same; sector_bytes = sector_bytes_lem }
 
   -- what the side held in the line, and what it holds there
-  pub held_then : (t new : List Place) → own_at n d s x ≡ given t → own_at n e s x ≡ given new → (k : ℕ) → held_by n d s ≡ given k
-      → (k' : ℕ) × (held_by n e s ≡ given k') × (k' + length t ≡ k + length new)
+  pub held_then : (t new : List Place) → own_at n d s x ≡ Ok t → own_at n e s x ≡ Ok new → (k : ℕ) → held_by n d s ≡ Ok k
+      → (k' : ℕ) × (held_by n e s ≡ Ok k') × (k' + length t ≡ k + length new)
   held_then t new h h' k q =
       let g = own_given n d s r in
       let p = each_split (own_at n d s) a x b g.0 (ap (each (own_at n d s)) (sym c.split) ∙ g.1) in
       let tt' : p.1 ≡ t = given_same p.4 h in
-      let j : each (own_at n e s) (a ++ x ∷ b) ≡ given (p.0 ++ new ∷ p.2) =
+      let j : each (own_at n e s) (a ++ x ∷ b) ≡ Ok (p.0 ++ new ∷ p.2) =
       each_join (own_at n e s) a x b p.0 new p.2 (each_same (own_at n e s) (own_at n d s) own_before ∙ p.3) h' (each_same (own_at n e s) (own_at n d s) own_after ∙ p.5) in
-      let z : own_sectors n e s ≡ given (flat_map (λ t. t) (p.0 ++ new ∷ p.2)) = sectors_are n e s r.ps (p.0 ++ new ∷ p.2) pages_then (ap (each (own_at n e s)) c.split ∙ j) in
+      let z : own_sectors n e s ≡ Ok (flat_map (λ t. t) (p.0 ++ new ∷ p.2)) = sectors_are n e s r.ps (p.0 ++ new ∷ p.2) pages_then (ap (each (own_at n e s)) c.split ∙ j) in
       let v : k ≡ length (flat_map (λ t. t) (p.0 ++ t ∷ p.2)) =
       given_same q (held_is n d s (flat_map (λ t. t) g.0) g.2) ∙ ap (λ (ts : List (List Place)). length (flat_map (λ t. t) ts)) (p.6 ∙ ap (λ (l : List Place). p.0 ++ l ∷ p.2) tt') in
       let l₁ = length_joined p.0 new p.2 in

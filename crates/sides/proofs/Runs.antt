@@ -7,8 +7,9 @@ use native.Mathlib.Omega.{arith}
 use lib.ListN.{length}
 use Rattle.lists.specs.Every.{Every}
 use Rattle.lists.specs.Fill.{Bytes}
+use Rattle.std.specs.Prelude.{Ok, Err}
 use Rattle.outcome.specs.declared.Refusal.{Refusal}
-use Rattle.outcome.specs.Outcome.{Outcome, refused, given, ◌>>=◌}
+use Rattle.outcome.specs.Outcome.{Outcome, ◌>>=◌}
 use Rattle.disk.specs.declared.Place.{Place}
 use Rattle.files.specs.Contents.{Contents}
 use Rattle.amend.specs.Lines.{tidy}
@@ -23,12 +24,12 @@ use Rattle.sides.proofs.Own.{kept_for, held_then}
 use Rattle.sides.proofs.Steps.{Effect, effect}
 
 -- ---- a disk that is not clean stays
-not_clean : (n : ℕ) (d : List ℕ) (s : Side) (limit : ℕ) (op : Op) (r : Refusal) → tidy n d ≡ refused r → call_of n d s limit op ≡ refused r
+not_clean : (n : ℕ) (d : List ℕ) (s : Side) (limit : ℕ) (op : Op) (r : Refusal) → tidy n d ≡ Err r → call_of n d s limit op ≡ Err r
 unfolding saved_for deleted_for
 not_clean n d s limit (Amending.Op.save name address bytes) r h = rw h refl
 not_clean n d s limit (Amending.Op.delete name) r h = rw h refl
 
-run_refused : (n : ℕ) (d : List ℕ) (r : Refusal) → tidy n d ≡ refused r → (cs : List Call) → run_for n d cs ≡ d
+run_refused : (n : ℕ) (d : List ℕ) (r : Refusal) → tidy n d ≡ Err r → (cs : List Call) → run_for n d cs ≡ d
 unfolding run_for
 run_refused n d r h [] = refl
 run_refused n d r h (c ∷ cs) =
@@ -72,7 +73,7 @@ module _ (n : ℕ) (some' : 0 < n) (few : n ≤ 16) where
   -- the other holds as much, the side no more than its limit
   effect_other : (d e : List ℕ) (s : Side) (limit : ℕ) → Effect n d e s limit → held_by n e (other s) ≡ held_by n d (other s)
   unfolding held_by
-  effect_other d e s limit f = ap (λ (o : Outcome (List Place)). o >>= λ ps. given (length ps)) (effect_keeps d e s limit f).sectors
+  effect_other d e s limit f = ap (λ (o : Outcome (List Place)). o >>= λ ps. Ok (length ps)) (effect_keeps d e s limit f).sectors
 
   effect_own : (d e : List ℕ) (s : Side) (limit : ℕ) → Effect n d e s limit → InLimit n s limit d → InLimit n s limit e
   effect_own d e s limit f w =
@@ -97,8 +98,8 @@ module _ (n : ℕ) (some' : 0 < n) (few : n ≤ 16) where
   stays_run (a ∷ cs) d c (Every.more b bs) = go (answer n d a) refl (λ d' c'. stays_run cs d' c' bs)
     where
       go : (o : Outcome (List ℕ)) → answer n d a ≡ o → ((d' : List ℕ) → Clean n d' → Clean n (run_for n d' cs)) → Clean n (run_for n (kept d o) cs)
-      go (refused r) h i = i d c
-      go (given e) h i = let f = effect n some' few d c a.side a.limit a.op b e h in i e (clean_of n some' few e f.bytes f.reading)
+      go (Err r) h i = i d c
+      go (Ok e) h i = let f = effect n some' few d c a.side a.limit a.op b e h in i e (clean_of n some' few e f.bytes f.reading)
 
   keeps_run : (cs : List Call) (d : List ℕ) → Clean n d → (s : Side) → Every BytesIn cs → Every (λ (c : Call). c.side ≡ s) cs → KeptFor n (other s) d (run_for n d cs)
   unfolding run_for
@@ -106,8 +107,8 @@ module _ (n : ℕ) (some' : 0 < n) (few : n ≤ 16) where
   keeps_run (a ∷ cs) d c s (Every.more b bs) (Every.more q qs) = go (answer n d a) refl (λ d' c'. keeps_run cs d' c' s bs qs)
     where
       go : (o : Outcome (List ℕ)) → answer n d a ≡ o → ((d' : List ℕ) → Clean n d' → KeptFor n (other s) d' (run_for n d' cs)) → KeptFor n (other s) d (run_for n (kept d o) cs)
-      go (refused r) h i = i d c
-      go (given e) h i =
+      go (Err r) h i = i d c
+      go (Ok e) h i =
           let f = effect n some' few d c a.side a.limit a.op b e h in
           kept_more (subst (λ (u : Side). KeptFor n (other u) d e) q (effect_keeps d e a.side a.limit f)) (i e (clean_of n some' few e f.bytes f.reading))
 
@@ -117,8 +118,8 @@ module _ (n : ℕ) (some' : 0 < n) (few : n ≤ 16) where
   within_run (a ∷ cs) d c s limit w (Every.more b bs) (Every.more q qs) = go (answer n d a) refl (λ d' c' w'. within_run cs d' c' s limit w' bs qs)
     where
       go : (o : Outcome (List ℕ)) → answer n d a ≡ o → ((d' : List ℕ) → Clean n d' → InLimit n s limit d' → InLimit n s limit (run_for n d' cs)) → InLimit n s limit (run_for n (kept d o) cs)
-      go (refused r) h i = i d c w
-      go (given e) h i =
+      go (Err r) h i = i d c w
+      go (Ok e) h i =
           let f = effect n some' few d c a.side a.limit a.op b e h in
           i e (clean_of n some' few e f.bytes f.reading) (effect_within d e a s limit q f w)
 
@@ -127,12 +128,12 @@ module _ (n : ℕ) (some' : 0 < n) (few : n ≤ 16) where
   keeps_is d b s cs bs qs = go (tidy n d) refl
     where
       go : (o : Outcome Contents) → tidy n d ≡ o → KeptFor n (other s) d (run_for n d cs)
-      go (refused r) h = subst (λ (e : List ℕ). KeptFor n (other s) d e) (sym (run_refused n d r h cs)) (kept_self n (other s) d)
-      go (given t) h = keeps_run cs d (record { bytes = b; has = t; is = h }) s bs qs
+      go (Err r) h = subst (λ (e : List ℕ). KeptFor n (other s) d e) (sym (run_refused n d r h cs)) (kept_self n (other s) d)
+      go (Ok t) h = keeps_run cs d (record { bytes = b; has = t; is = h }) s bs qs
 
   pub limits_is : (d : List ℕ) → Bytes d → (s : Side) (limit : ℕ) → InLimit n s limit d → (cs : List Call) → Every BytesIn cs → OneLimit s limit cs → InLimit n s limit (run_for n d cs)
   limits_is d b s limit w cs bs qs = go (tidy n d) refl
     where
       go : (o : Outcome Contents) → tidy n d ≡ o → InLimit n s limit (run_for n d cs)
-      go (refused r) h = subst (λ (e : List ℕ). InLimit n s limit e) (sym (run_refused n d r h cs)) w
-      go (given t) h = within_run cs d (record { bytes = b; has = t; is = h }) s limit w bs qs
+      go (Err r) h = subst (λ (e : List ℕ). InLimit n s limit e) (sym (run_refused n d r h cs)) w
+      go (Ok t) h = within_run cs d (record { bytes = b; has = t; is = h }) s limit w bs qs

@@ -10,8 +10,9 @@ use Rattle.lists.specs.Every.{Every}
 use Rattle.lists.specs.Fill.{Bytes}
 use Rattle.lists.proofs.Split.{both_true, and_false}
 use Rattle.lists.proofs.Equal.{same_eq}
+use Rattle.std.specs.Prelude.{Ok, Err}
 use Rattle.outcome.specs.declared.Refusal.TheVariants.{UnwritableName, NameTaken, OtherSide, OverLimit}
-use Rattle.outcome.specs.Outcome.{Outcome, refused, given, ◌>>◌, require}
+use Rattle.outcome.specs.Outcome.{Outcome, ◌>>◌, require}
 use Rattle.outcome.proofs.Outcome.{gives, refused_given, required}
 use Rattle.disk.specs.declared.Place.{Place}
 use Rattle.catalog.specs.Catalog.{Entry, live, shown, entry_from}
@@ -49,13 +50,13 @@ sectors_many (g ∷ gs) =
 
 -- ---- an accepted call is an accepted save or delete
 module _ (n : ℕ) (d : List ℕ) (s : Side) (limit : ℕ) where
-  saved_by_lem : (name : List ℕ) (address : ℕ) (bytes e : List ℕ) (c : Contents) → tidy n d ≡ given c → savable name ≡ true → is_new c name ≡ true
-      → stored n d name address bytes ≡ given e → saved n d name address bytes ≡ given e
+  saved_by_lem : (name : List ℕ) (address : ℕ) (bytes e : List ℕ) (c : Contents) → tidy n d ≡ Ok c → savable name ≡ true → is_new c name ≡ true
+      → stored n d name address bytes ≡ Ok e → saved n d name address bytes ≡ Ok e
   unfolding saved
   saved_by_lem name address bytes e c h a b o = rw (h, a, b) o
 
-  pub saved_for_lem : (name : List ℕ) (address : ℕ) (bytes e : List ℕ) → saved_for n d s limit name address bytes ≡ given e
-      → (belongs s name ≡ true) × (within n d s limit (length bytes) ≡ given tt) × (saved n d name address bytes ≡ given e)
+  pub saved_for_lem : (name : List ℕ) (address : ℕ) (bytes e : List ℕ) → saved_for n d s limit name address bytes ≡ Ok e
+      → (belongs s name ≡ true) × (within n d s limit (length bytes) ≡ Ok tt) × (saved n d name address bytes ≡ Ok e)
   unfolding saved_for
   saved_for_lem name address bytes e h =
       let g = gives (tidy n d) _ e h in
@@ -63,30 +64,30 @@ module _ (n : ℕ) (d : List ℕ) (s : Side) (limit : ℕ) where
       (k.1, k.3, saved_by_lem name address bytes e g.0 g.1 k.0 k.2 k.4)
     where
       steps : (a b c : Bool) (w : Outcome (Unit {0})) (o : Outcome (List ℕ))
-          → require a UnwritableName >> require b OtherSide >> require c NameTaken >> w >> o ≡ given e
-          → (a ≡ true) × (b ≡ true) × (c ≡ true) × (w ≡ given tt) × (o ≡ given e)
-      steps true true true (given u) o q = (refl, refl, refl, refl, q)
-      steps true true true (refused r) o q = absurd (refused_given q)
+          → require a UnwritableName >> require b OtherSide >> require c NameTaken >> w >> o ≡ Ok e
+          → (a ≡ true) × (b ≡ true) × (c ≡ true) × (w ≡ Ok tt) × (o ≡ Ok e)
+      steps true true true (Ok u) o q = (refl, refl, refl, refl, q)
+      steps true true true (Err r) o q = absurd (refused_given q)
       steps true true false w o q = absurd (refused_given q)
       steps true false c w o q = absurd (refused_given q)
       steps false b c w o q = absurd (refused_given q)
 
-  pub deleted_for_lem : (name e : List ℕ) → deleted_for n d s limit name ≡ given e → (belongs s name ≡ true) × (deleted n d name ≡ given e)
+  pub deleted_for_lem : (name e : List ℕ) → deleted_for n d s limit name ≡ Ok e → (belongs s name ≡ true) × (deleted n d name ≡ Ok e)
   unfolding deleted_for deleted
   deleted_for_lem name e h = go (tidy n d) h
     where
-      steps : (a b : Bool) (o : Outcome (List ℕ)) → require a UnwritableName >> require b OtherSide >> o ≡ given e → (a ≡ true) × (b ≡ true) × (o ≡ given e)
+      steps : (a b : Bool) (o : Outcome (List ℕ)) → require a UnwritableName >> require b OtherSide >> o ≡ Ok e → (a ≡ true) × (b ≡ true) × (o ≡ Ok e)
       steps true true o q = (refl, refl, q)
       steps true false o q = absurd (refused_given q)
       steps false b o q = absurd (refused_given q)
 
-      go : (o : Outcome Contents) → o >> require (savable name) UnwritableName >> require (belongs s name) OtherSide >> removed n d name ≡ given e
-          → (belongs s name ≡ true) × (o >> require (savable name) UnwritableName >> removed n d name ≡ given e)
-      go (refused r) q = absurd (refused_given q)
-      go (given c) q = let k = steps (savable name) (belongs s name) (removed n d name) q in (k.1, rw k.0 k.2)
+      go : (o : Outcome Contents) → o >> require (savable name) UnwritableName >> require (belongs s name) OtherSide >> removed n d name ≡ Ok e
+          → (belongs s name ≡ true) × (o >> require (savable name) UnwritableName >> removed n d name ≡ Ok e)
+      go (Err r) q = absurd (refused_given q)
+      go (Ok c) q = let k = steps (savable name) (belongs s name) (removed n d name) q in (k.1, rw k.0 k.2)
 
   -- within the limit
-  within_is : (k m : ℕ) → within n d s limit k ≡ given tt → held_by n d s ≡ given m → m + (lists_for (data_for k) + data_for k) ≤ limit
+  within_is : (k m : ℕ) → within n d s limit k ≡ Ok tt → held_by n d s ≡ Ok m → m + (lists_for (data_for k) + data_for k) ≤ limit
   unfolding within
   within_is k m h q = leb-true _ _ (required _ OverLimit (rw q at h))
 
@@ -106,10 +107,10 @@ pub record Effect (n : ℕ) (d e : List ℕ) (s : Side) (limit : ℕ) : Type 0 w
   pub is_other : of_side (other s) (entry_from e line) ≡ false
   -- what the side held there, and what it holds there
   pub was : List Place
-  pub was_is : own_at n d s line ≡ given was
+  pub was_is : own_at n d s line ≡ Ok was
   pub is : List Place
-  pub is_is : own_at n e s line ≡ given is
-  pub bound : (k : ℕ) → held_by n d s ≡ given k → k ≤ limit → k + length is ≤ limit + length was
+  pub is_is : own_at n e s line ≡ Ok is
+  pub bound : (k : ℕ) → held_by n d s ≡ Ok k → k ≤ limit → k + length is ≤ limit + length was
 
 -- an entry by its two tests
 side_no : (s : Side) (x : Entry) (name : List ℕ) → shown x.raw ≡ name → belongs s name ≡ false → of_side s x ≡ false
@@ -121,17 +122,17 @@ side_out s x h = rw h refl
 side_yes : (s : Side) (x : Entry) (name : List ℕ) → live x ≡ true → shown x.raw ≡ name → belongs s name ≡ true → of_side s x ≡ true
 side_yes s x name l q h = ap (λ (y : List ℕ). live x && belongs s y) q ∙ rw (l, h) refl
 
-own_out : (n : ℕ) (d : List ℕ) (s : Side) (x : ℕ) → in_use d x ≡ false → own_at n d s x ≡ given []
+own_out : (n : ℕ) (d : List ℕ) (s : Side) (x : ℕ) → in_use d x ≡ false → own_at n d s x ≡ Ok []
 unfolding own_at
 own_out n d s x h = rw (side_out s (entry_from d x) h) refl
 
-own_in : (n : ℕ) (d : List ℕ) (s : Side) (x : ℕ) (u : List Place) → in_use d x ≡ true → of_side s (entry_from d x) ≡ true → line_holds n d x ≡ given u → own_at n d s x ≡ given u
+own_in : (n : ℕ) (d : List ℕ) (s : Side) (x : ℕ) (u : List Place) → in_use d x ≡ true → of_side s (entry_from d x) ≡ true → line_holds n d x ≡ Ok u → own_at n d s x ≡ Ok u
 unfolding own_at line_holds
-own_in n d s x u l h k = let z : sectors_of n d (entry_from d x) ≡ given u = rw l at k in rw h z
+own_in n d s x u l h k = let z : sectors_of n d (entry_from d x) ≡ Ok u = rw l at k in rw h z
 
 module _ (n : ℕ) (some' : 0 < n) (few : n ≤ 16) where
   module _ (d : List ℕ) (c : Clean n d) (s : Side) (limit : ℕ) where
-    save_effect : (name : List ℕ) (address : ℕ) (bytes : List ℕ) → Bytes bytes → (e : List ℕ) → saved_for n d s limit name address bytes ≡ given e → Effect n d e s limit
+    save_effect : (name : List ℕ) (address : ℕ) (bytes : List ℕ) → Bytes bytes → (e : List ℕ) → saved_for n d s limit name address bytes ≡ Ok e → Effect n d e s limit
     save_effect name address bytes b e h =
         let g = saved_for_lem n d s limit name address bytes e h in
         let r = (reading_of n some' few d c).0 in
@@ -159,7 +160,7 @@ module _ (n : ℕ) (some' : 0 < n) (few : n ≤ 16) where
           bound = λ m q l. let h = within_is n d s limit (length bytes) m g.1 q in omega arith;
         }
 
-    delete_effect : (name e : List ℕ) → deleted_for n d s limit name ≡ given e → Effect n d e s limit
+    delete_effect : (name e : List ℕ) → deleted_for n d s limit name ≡ Ok e → Effect n d e s limit
     delete_effect name e h =
         let g = deleted_for_lem n d s limit name e h in
         let r = (reading_of n some' few d c).0 in
@@ -186,6 +187,6 @@ module _ (n : ℕ) (some' : 0 < n) (few : n ≤ 16) where
           bound = λ m q l. omega arith;
         }
 
-    pub effect : (op : Op) → OfBytes op → (e : List ℕ) → call_of n d s limit op ≡ given e → Effect n d e s limit
+    pub effect : (op : Op) → OfBytes op → (e : List ℕ) → call_of n d s limit op ≡ Ok e → Effect n d e s limit
     effect (Amending.Op.save name address bytes) b e h = save_effect name address bytes b e h
     effect (Amending.Op.delete name) b e h = delete_effect name e h

@@ -12,7 +12,8 @@ use Rattle.lists.specs.Every.{Every}
 use Rattle.lists.specs.Select.{among}
 use Rattle.lists.proofs.Split.{by_test}
 use Rattle.lists.proofs.Among.{not_among}
-use Rattle.outcome.specs.Outcome.{given, each}
+use Rattle.std.specs.Prelude.{Ok}
+use Rattle.outcome.specs.Outcome.{each}
 use Rattle.outcome.proofs.Outcome.{each_cons, each_also, each_same}
 use Rattle.disk.specs.declared.Place.{Place}
 use Rattle.disk.specs.Disk.{start, number_of, on_disk}
@@ -102,7 +103,7 @@ module _ (n : ℕ) (z : 0 < n) (d e : List ℕ) (r : Reading n d) (s : Side) (si
     pub entries_same : Every (λ (y : ℕ). entry_from e y ≡ entry_from d y) (starts n r.ps)
     entries_same = every_imp (λ y t. line_entry t.0 y t.1 t.2) (starts_each n d page_alike)
 
-    pub pages_same : pages n e ≡ given r.ps
+    pub pages_same : pages n e ≡ Ok r.ps
     pages_same =
         pages_stay n d e r.ps size (λ k h. byte_same n d e vtoc vtoc_alike k (omega arith)) (λ k h l. byte_same n d e vtoc vtoc_alike k (omega arith))
         (every_imp
@@ -113,34 +114,34 @@ module _ (n : ℕ) (z : 0 < n) (d e : List ℕ) (r : Reading n d) (s : Side) (si
         r.paged
 
     -- ---- what they hold
-    holds_line : (y : ℕ) (u q : List Place) → entry_from e y ≡ entry_from d y → Every (Alike n d e) q → line_holds n d y ≡ given u → rest_at n d s y ≡ given q
+    holds_line : (y : ℕ) (u q : List Place) → entry_from e y ≡ entry_from d y → Every (Alike n d e) q → line_holds n d y ≡ Ok u → rest_at n d s y ≡ Ok q
         → line_holds n e y ≡ line_holds n d y
     unfolding rest_at line_holds
     holds_line y u q same a h k = go (entry_from d y) (entry_from e y) same h k
       where
-        go : (x w : Entry) → w ≡ x → cond (live x) (sectors_of n d x) (given []) ≡ given u
-            → cond (of_side s x) (lists n d x) (cond (live x) (sectors_of n d x) (given [])) ≡ given q
-            → cond (live w) (sectors_of n e w) (given []) ≡ cond (live x) (sectors_of n d x) (given [])
+        go : (x w : Entry) → w ≡ x → cond (live x) (sectors_of n d x) (Ok []) ≡ Ok u
+            → cond (of_side s x) (lists n d x) (cond (live x) (sectors_of n d x) (Ok [])) ≡ Ok q
+            → cond (live w) (sectors_of n e w) (Ok []) ≡ cond (live x) (sectors_of n d x) (Ok [])
         go x w p v t =
             rw p
             (by_test (live x)
             (λ l.
-            let b : sectors_of n d x ≡ given u = rw l at v in
+            let b : sectors_of n d x ≡ Ok u = rw l at v in
             rw l
             (by_test (of_side s x)
             (λ c.
             let g = sectors_given n d x u b in
-            let i : lists n d x ≡ given q = rw c at t in
+            let i : lists n d x ≡ Ok q = rw c at t in
             let f : Every (Alike n d e) g.0 = subst (Every (Alike n d e)) (given_same i g.1) a in
-            sectors_give n e x g.0 (lists_alike n d e x g.0 f g.1) (rw (all_pairs_alike n d e f) g.2) ∙ ap given (all_with_alike n d e f ∙ sym g.3) ∙ sym b)
+            sectors_give n e x g.0 (lists_alike n d e x g.0 f g.1) (rw (all_pairs_alike n d e f) g.2) ∙ ap Ok (all_with_alike n d e f ∙ sym g.3) ∙ sym b)
             (λ c.
-            let j : cond (live x) (sectors_of n d x) (given []) ≡ given q = rw c at t in
-            let i : sectors_of n d x ≡ given q = rw l at j in
+            let j : cond (live x) (sectors_of n d x) (Ok []) ≡ Ok q = rw c at t in
+            let i : sectors_of n d x ≡ Ok q = rw l at j in
             sectors_alike n d e x q a i ∙ sym i)))
             (λ l. rw l refl))
 
     holds_lines : {ys : List ℕ} (us qs : List (List Place)) → Every (λ (y : ℕ). entry_from e y ≡ entry_from d y) ys → Every (Every (Alike n d e)) qs
-        → each (line_holds n d) ys ≡ given us → each (rest_at n d s) ys ≡ given qs → Every (λ (y : ℕ). line_holds n e y ≡ line_holds n d y) ys
+        → each (line_holds n d) ys ≡ Ok us → each (rest_at n d s) ys ≡ Ok qs → Every (λ (y : ℕ). line_holds n e y ≡ line_holds n d y) ys
     holds_lines us qs Every.none a h k = Every.none
     holds_lines us qs (Every.more {x} {xs} p ps) a h k =
         let c = each_cons (line_holds n d) x xs us h in
@@ -151,12 +152,12 @@ module _ (n : ℕ) (z : 0 < n) (d e : List ℕ) (r : Reading n d) (s : Side) (si
     pub holds_same : Every (λ (y : ℕ). line_holds n e y ≡ line_holds n d y) (starts n r.ps)
     holds_same = holds_lines r.us D.rest entries_same rest_alike r.holds D.rest_is
 
-    file_one : (y : ℕ) (f : File) → in_use e y ≡ true → file_of n e (entry_from e y) ≡ given f → line_at n e y ≡ given (some f)
+    file_one : (y : ℕ) (f : File) → in_use e y ≡ true → file_of n e (entry_from e y) ≡ Ok f → line_at n e y ≡ Ok (some f)
     unfolding line_at
     file_one y f c h = rw (c, h) refl
 
     -- a line that holds its sectors has a file
-    file_too : (y : ℕ) (u : List Place) → line_holds n e y ≡ given u → (l : Option File) × (line_at n e y ≡ given l)
+    file_too : (y : ℕ) (u : List Place) → line_holds n e y ≡ Ok u → (l : Option File) × (line_at n e y ≡ Ok l)
     unfolding line_holds line_at
     file_too y u h =
         by_test (in_use e y)
@@ -168,7 +169,7 @@ module _ (n : ℕ) (z : 0 < n) (d e : List ℕ) (r : Reading n d) (s : Side) (si
     -- the other disk is clean too
     pub twin : (t : Reading n e) × (t.ps ≡ r.ps) × (t.us ≡ r.us)
     twin =
-        let h : each (line_holds n e) (starts n r.ps) ≡ given r.us = each_same (line_holds n e) (line_holds n d) holds_same ∙ r.holds in
+        let h : each (line_holds n e) (starts n r.ps) ≡ Ok r.us = each_same (line_holds n e) (line_holds n d) holds_same ∙ r.holds in
         let f = each_also (line_holds n e) (line_at n e) file_too (starts n r.ps) r.us h in (
           record {
             ps = r.ps;

@@ -3,8 +3,9 @@
 use Rattle.std.specs.Prelude.{Bool, false, cond, not, ◌&&◌, ℕ, ◌+◌, length, leb, eqb}
 use mathlib.Core.List.{List, [], ◌∷◌, map, flat_map}
 use Rattle.lists.specs.Select.{filter}
+use Rattle.std.specs.Prelude.{Ok}
 use Rattle.outcome.specs.declared.Refusal.TheVariants.{UnwritableName, NameTaken, OtherSide, OverLimit}
-use Rattle.outcome.specs.Outcome.{Outcome, given, ◌>>=◌, ◌>>◌, require, each}
+use Rattle.outcome.specs.Outcome.{Outcome, ◌>>=◌, ◌>>◌, require, each}
 use Rattle.disk.specs.declared.Place.{Place}
 use Rattle.catalog.specs.Catalog.{Entry, live, shown, entry_from, pages}
 use Rattle.holders.specs.Holders.{sectors_of}
@@ -39,23 +40,23 @@ of_side s e = live e && belongs s (shown e.raw)
 module _ (n : ℕ) (d : List ℕ) (s : Side) where
   -- where the lines in use by it start, in chain order: 1 to 6
   unfoldable pub own_lines : Outcome (List ℕ)
-  own_lines = pages n d >>= λ ps. given (filter (λ x. of_side s (entry_from d x)) (starts n ps))
+  own_lines = pages n d >>= λ ps. Ok (filter (λ x. of_side s (entry_from d x)) (starts n ps))
 
   -- the entries of these lines
   unfoldable pub own_entries : Outcome (List Entry)
-  own_entries = own_lines >>= λ xs. given (map (entry_from d) xs)
+  own_entries = own_lines >>= λ xs. Ok (map (entry_from d) xs)
 
   -- the sectors that it holds in the line at x, lists and data; none where the line is not its own
   unfoldable pub own_at : ℕ → Outcome (List Place)
-  own_at x = cond (of_side s (entry_from d x)) (sectors_of n d (entry_from d x)) (given [])
+  own_at x = cond (of_side s (entry_from d x)) (sectors_of n d (entry_from d x)) (Ok [])
 
   -- all sectors that it holds, line by line
   unfoldable pub own_sectors : Outcome (List Place)
-  own_sectors = pages n d >>= λ ps. each own_at (starts n ps) >>= λ ts. given (flat_map (λ t. t) ts)
+  own_sectors = pages n d >>= λ ps. each own_at (starts n ps) >>= λ ts. Ok (flat_map (λ t. t) ts)
 
   -- how many they are
   unfoldable pub held_by : Outcome ℕ
-  held_by = own_sectors >>= λ ps. given (length ps)
+  held_by = own_sectors >>= λ ps. Ok (length ps)
 
   -- 24 where these and the sectors of k more bytes, lists included, are over the limit
   unfoldable pub within : (limit k : ℕ) → Outcome (Unit {0})

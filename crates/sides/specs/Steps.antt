@@ -1,7 +1,8 @@
 -- The sectors of a side counted page by page: what the steps of the code come to, whatever the disk. Where pages and lists are followed without a refusal it is
 -- what the side holds (`counted` of the claims).
 use Rattle.std.specs.Prelude.{Bool, cond, not, List, ℕ, zero, suc, ◌+◌, ◌*◌, length, eqb}
-use Rattle.outcome.specs.Outcome.{Outcome, refused, given}
+use Rattle.std.specs.Prelude.{Ok, Err}
+use Rattle.outcome.specs.Outcome.{Outcome}
 use Rattle.disk.specs.declared.Place.{Place}
 use Rattle.disk.specs.Disk.{start, link_of, sectors}
 use Rattle.catalog.specs.Catalog.{last_page, first_page}
@@ -16,8 +17,8 @@ lettered Ours b = not (eqb b 0x53)
 
 -- how many sectors were found; none under a refusal
 abbrev pub many : Outcome (List Place) → ℕ
-many (refused r) = 0
-many (given ps) = length ps
+many (Err r) = 0
+many (Ok ps) = length ps
 
 module _ (n : ℕ) (d : List ℕ) where
   -- the sum of f over the pages from p on, `fuel` pages at most

@@ -12,7 +12,7 @@ use files::build_file;
 use lists::byte_at;
 
 // Whose a name is, and who calls: the survey office, and we.
-#[derive(Clone, Copy)]
+#[derive(Clone, Copy, Debug, PartialEq, Eq)]
 pub enum Side {
     Survey,
     Ours,
@@ -40,10 +40,7 @@ fn of_side(disk: &[u8], side: Side, x: usize) -> bool
     requires { x < 16793600 }
     ensures { result ≡ of_side side (entry_from disk.now x) }
 {
-    if !valid_file(byte_at(disk, x)) {
-        return false;
-    }
-    lettered_for(side, letter_of(byte_at(disk, x + 3)))
+    valid_file(byte_at(disk, x)) && lettered_for(side, letter_of(byte_at(disk, x + 3)))
 }
 
 // How many sectors the side holds in the line from x on, lists and pairs; none where the line is not its own, or its lists are refused.
@@ -55,8 +52,10 @@ fn count_line(disk: &[u8], per: u8, side: Side, x: usize) -> u64
     if !of_side(disk, side, x) {
         return 0;
     }
-    let t = build_file(disk, per, entry_list(disk, x));
-    t.lists as u64 + t.pairs as u64
+    match build_file(disk, per, entry_list(disk, x)) {
+        Ok(t) => t.lists as u64 + t.pairs as u64,
+        Err(_) => 0,
+    }
 }
 
 // .. in the lines of a page.
@@ -79,14 +78,12 @@ pub fn count_held(disk: &[u8], per: u8, side: Side) -> u64
     let most = chain_budget(per);
     let mut p = first_page(disk, per);
     let mut many: u64 = 0;
-    let mut k: u16 = 0;
-    while k < most {
+    for _turn in 0..most {
         many += count_page(disk, per, side, p);
         if last_page(disk, per, p) {
             return many;
         }
         p = link_of(disk, per, p);
-        k += 1;
     }
     many
 }

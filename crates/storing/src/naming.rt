@@ -1,173 +1,165 @@
 // The text by which a path is opened. The library opens paths that are UTF-8; another is reached by links that ./linefiles makes in a folder of its own: link k leads
 // to what argument k names, and link k- to the folder in which that stands. A file that is written under a name that is not UTF-8 gets another one first, in the same
 // folder, and ./linefiles gives it its own.
-use crate::standing::folder_length;
-use screen::sums::after;
+use crate::standing::folder_of;
 use std::env::{Env, FillError};
 use std::io::{Error, ErrorKind};
 use std::str::from_utf8;
 
+// The longest path that is taken.
+const LONGEST: usize = 4096;
+
+// The place of the first argument that is the caller's.
+const FIRST: usize = 3;
+
 // A path that is UTF-8.
-pub fn text_of(path: &[u8]) -> Result<&str, Error> {
+fn text_of(rt: &HostRuntime, path: &[u8]) -> Result<String, Error> {
     match from_utf8(path) {
-        Ok(name) => Ok(name),
+        Ok(name) => Ok(String::from_str(rt.alloc(), name)?),
         Err(_) => Err(Error::new(ErrorKind::InvalidFilename, "the name is not UTF-8")),
     }
 }
 
-// Puts s at place n, where it fits: the place behind it.
-fn put(space: &mut [u8], n: usize, s: &[u8]) -> usize {
-    lists::copy_at(s, space, n);
-    after(n, s.len())
+// Argument k; an empty one where it is too long, none past the last.
+fn argument(rt: &HostRuntime, k: usize) -> Result<Option<Vec<u8>>, Error> {
+    let mut space = io::buffer();
+    match rt.arg(k, &mut space) {
+        Ok(n) => Ok(Some(Vec::from_slice(rt.alloc(), lists::part(&space, 0, n))?)),
+        Err(FillError::TooLong) => Ok(Some(Vec::new(rt.alloc()))),
+        Err(FillError::NotPresent) => Ok(None),
+    }
 }
 
-// Puts the folder of the links, link k and what stands behind it into `space`: the length; 0 where there are no links.
-fn put_link(rt: &HostRuntime, k: usize, end: &[u8], rest: &[u8], space: &mut [u8]) -> usize {
-    let mut folder = io::buffer();
-    let n = match rt.var("LINEFILES_LINKS", &mut folder) {
-        Ok(n) => n,
-        Err(_) => 0,
-    };
-    if n == 0 {
-        return 0;
+// The folder of the links, if there is one.
+fn links(rt: &HostRuntime) -> Result<Option<Vec<u8>>, Error> {
+    let mut space = io::buffer();
+    match rt.var("LINEFILES_LINKS", &mut space) {
+        Ok(n) if 0 < n => Ok(Some(Vec::from_slice(rt.alloc(), lists::part(&space, 0, n))?)),
+        _ => Ok(None),
     }
-    let mut digits = [0u8; 20];
-    let d = io::decimal(k as u64, &mut digits);
-    let mut m = put(space, 0, lists::part(&folder, 0, n));
-    m = put(space, m, b"/");
-    m = put(space, m, &digits[..d]);
-    m = put(space, m, end);
-    m = put(space, m, rest);
-    if space.len() < m {
-        return 0;
-    }
-    m
 }
 
-// The path begins so.
-fn begins(path: &[u8], front: &[u8]) -> bool {
-    lists::same(lists::part(path, 0, front.len()), front)
-}
-
-// Puts the path by a link of argument k, which is w, into `space`: the length; 0 where that is none. `own`: the link to what the argument names may stand for it.
-fn put_by(rt: &HostRuntime, k: usize, w: &[u8], path: &[u8], own: bool, space: &mut [u8]) -> usize {
-    let n = w.len();
-    if own & lists::same(path, w) {
-        return put_link(rt, k, b"", b"", space);
-    }
-    if begins(path, w) & (lists::byte_at(path, n) == b'/') {
-        return put_link(rt, k, b"", lists::part(path, n, path.len()), space);
-    }
-    let f = folder_length(w);
-    if (0 < f) & begins(path, lists::part(w, 0, f)) {
-        return put_link(rt, k, b"-/", lists::part(path, f, path.len()), space);
-    }
-    0
-}
-
-// Puts the path by links into `space`: the length; 0 where no argument's links lead there.
-fn put_by_links(rt: &HostRuntime, path: &[u8], own: bool, space: &mut [u8]) -> usize {
-    for k in 3..usize::MAX {
-        let mut w = io::buffer();
-        let n = match rt.arg(k, &mut w) {
-            Ok(n) => n,
-            Err(FillError::TooLong) => 0,
-            Err(FillError::NotPresent) => return 0,
-        };
-        let m = put_by(rt, k, lists::part(&w, 0, n), path, own, space);
-        if (0 < m) & from_utf8(lists::part(space, 0, m)).is_ok() {
-            return m;
-        }
-    }
-    0
-}
-
-fn named<'a>(
+// Link k with what stands behind it, if there are links, and the path is not too long.
+fn by_link(
     rt: &HostRuntime,
-    path: &'a [u8],
+    k: usize,
+    end: &[u8],
+    behind: &[u8],
+) -> Result<Option<Vec<u8>>, Error> {
+    let Some(mut path) = links(rt)? else {
+        return Ok(None);
+    };
+    path.extend_from_slice(format!(in rt.alloc(); "/{k}")?.as_bytes())?;
+    path.extend_from_slice(end)?;
+    path.extend_from_slice(behind)?;
+    if LONGEST < path.len() {
+        return Ok(None);
+    }
+    Ok(Some(path))
+}
+
+// The path by a link of argument k, if one leads there. `own`: the link to what the argument names may stand for it.
+fn by_argument(
+    rt: &HostRuntime,
+    k: usize,
+    argument: &[u8],
+    path: &[u8],
     own: bool,
-    space: &'a mut [u8],
-) -> Result<&'a str, Error> {
-    if from_utf8(path).is_ok() {
-        return text_of(path);
+) -> Result<Option<Vec<u8>>, Error> {
+    if own & (path == argument) {
+        return by_link(rt, k, b"", b"");
     }
-    let n = put_by_links(rt, path, own, space);
-    if n == 0 {
-        return text_of(path);
-    }
-    text_of(lists::part(space, 0, n))
-}
-
-// Puts the name that a file has first which argument k names, behind link k-, into `space`: the length; 0 where there are no links.
-fn put_first(rt: &HostRuntime, k: usize, space: &mut [u8]) -> usize {
-    let mut folder = io::buffer();
-    let n = put_link(rt, k, b"", b"", &mut folder);
-    let own = folder_length(lists::part(&folder, 0, n));
-    if own < 2 {
-        return 0;
-    }
-    let links = lists::part(&folder, 0, own - 1);
-    let stem = folder_length(links);
-    let mut m = put_link(
-        rt,
-        k,
-        b"-/.linefiles-",
-        lists::part(links, stem, links.len()),
-        space,
-    );
-    if m == 0 {
-        return 0;
-    }
-    m = put(space, m, b"-");
-    let mut digits = [0u8; 20];
-    let d = io::decimal(k as u64, &mut digits);
-    put(space, m, &digits[..d])
-}
-
-// Puts the first name of the file that an argument names by this path into `space`: the length; 0 where none does, or there are no links.
-fn put_new(rt: &HostRuntime, path: &[u8], space: &mut [u8]) -> usize {
-    for k in 3..usize::MAX {
-        let mut w = io::buffer();
-        let n = match rt.arg(k, &mut w) {
-            Ok(n) => n,
-            Err(FillError::TooLong) => 0,
-            Err(FillError::NotPresent) => return 0,
-        };
-        if (0 < n) & lists::same(path, lists::part(&w, 0, n)) {
-            return put_first(rt, k, space);
+    if let Some(behind) = path.strip_prefix(argument) {
+        if behind.starts_with(b"/") {
+            return by_link(rt, k, b"", behind);
         }
     }
-    0
+    let folder = folder_of(argument);
+    match path.strip_prefix(folder) {
+        Some(behind) if !folder.is_empty() => by_link(rt, k, b"-/", behind),
+        _ => Ok(None),
+    }
+}
+
+// The path by links, if an argument's links lead there.
+fn by_links(rt: &HostRuntime, path: &[u8], own: bool) -> Result<Option<String>, Error> {
+    for k in FIRST..usize::MAX {
+        let Some(argument) = argument(rt, k)? else {
+            break;
+        };
+        if let Some(found) = by_argument(rt, k, argument.as_slice(), path, own)? {
+            if from_utf8(found.as_slice()).is_ok() {
+                return Ok(Some(text_of(rt, found.as_slice())?));
+            }
+        }
+    }
+    Ok(None)
+}
+
+fn named(rt: &HostRuntime, path: &[u8], own: bool) -> Result<String, Error> {
+    if from_utf8(path).is_err() {
+        if let Some(name) = by_links(rt, path, own)? {
+            return Ok(name);
+        }
+    }
+    text_of(rt, path)
+}
+
+// The name that a file has first which argument k names, behind link k-, if there are links.
+fn first_name(rt: &HostRuntime, k: usize) -> Result<Option<Vec<u8>>, Error> {
+    let Some(links) = links(rt)? else {
+        return Ok(None);
+    };
+    let folder = folder_of(links.as_slice());
+    let stem = lists::part(links.as_slice(), folder.len(), links.len());
+    let Some(mut name) = by_link(rt, k, b"-/.linefiles-", stem)? else {
+        return Ok(None);
+    };
+    name.extend_from_slice(format!(in rt.alloc(); "-{k}")?.as_bytes())?;
+    Ok(Some(name))
+}
+
+// The first name of the file that an argument names by this path, if one does, and there are links.
+fn new_name(rt: &HostRuntime, path: &[u8]) -> Result<Option<Vec<u8>>, Error> {
+    for k in FIRST..usize::MAX {
+        let Some(argument) = argument(rt, k)? else {
+            break;
+        };
+        if !argument.is_empty() & (path == argument.as_slice()) {
+            return first_name(rt, k);
+        }
+    }
+    Ok(None)
+}
+
+// The name that the file of a path gets first, where the path is not UTF-8.
+fn other_name(rt: &HostRuntime, path: &[u8]) -> Result<Option<Vec<u8>>, Error> {
+    match of_folder(rt, path) {
+        Ok(_) => Ok(None),
+        Err(e) if e.kind() == ErrorKind::OutOfMemory => Err(e),
+        Err(_) => new_name(rt, path),
+    }
 }
 
 // The path is not UTF-8, and its file gets another name first.
-pub fn is_renamed(rt: &HostRuntime, path: &[u8]) -> bool {
-    let mut space = io::buffer();
-    if of_folder(rt, path, &mut space).is_ok() {
-        return false;
-    }
-    0 < put_new(rt, path, &mut space)
+pub fn is_renamed(rt: &HostRuntime, path: &[u8]) -> Result<bool, Error> {
+    Ok(other_name(rt, path)?.is_some())
 }
 
 // The text for a file that is written: the path's own, or of one that is not UTF-8 the name that it has first.
-pub fn of_new<'a>(rt: &HostRuntime, path: &'a [u8], space: &'a mut [u8]) -> Result<&'a str, Error> {
-    if is_renamed(rt, path) {
-        let n = put_new(rt, path, space);
-        return text_of(lists::part(space, 0, n));
+pub fn of_new(rt: &HostRuntime, path: &[u8]) -> Result<String, Error> {
+    match other_name(rt, path)? {
+        Some(name) => text_of(rt, name.as_slice()),
+        None => of_folder(rt, path),
     }
-    of_folder(rt, path, space)
 }
 
 // The text by which what stands at a path is reached.
-pub fn of_own<'a>(rt: &HostRuntime, path: &'a [u8], space: &'a mut [u8]) -> Result<&'a str, Error> {
-    named(rt, path, true, space)
+pub fn of_own(rt: &HostRuntime, path: &[u8]) -> Result<String, Error> {
+    named(rt, path, true)
 }
 
 // The text for the path itself, by which a file is made, named or taken away; only its folder may be reached by a link.
-pub fn of_folder<'a>(
-    rt: &HostRuntime,
-    path: &'a [u8],
-    space: &'a mut [u8],
-) -> Result<&'a str, Error> {
-    named(rt, path, false, space)
+pub fn of_folder(rt: &HostRuntime, path: &[u8]) -> Result<String, Error> {
+    named(rt, path, false)
 }

@@ -8,8 +8,9 @@ use lib.Dec.{eqb}
 use lib.ListN.{take, drop}
 use Rattle.lists.specs.Select.{all, any}
 use Rattle.lists.proofs.Split.{by_test, clash, and_assoc, and_true}
+use Rattle.std.specs.Prelude.{Ok, Err}
 use Rattle.outcome.specs.declared.Refusal.TheVariants.{Absent}
-use Rattle.outcome.specs.Outcome.{Outcome, refused, given}
+use Rattle.outcome.specs.Outcome.{Outcome}
 use Rattle.fields.specs.declared.Edition.{Edition}
 use Rattle.fields.specs.declared.FieldPair.{FieldPair}
 use Rattle.fields.specs.Editions.{nibbles_of, dos_sector, data_of}
@@ -54,30 +55,30 @@ any_agree t u w h (x ∷ xs) e =
 
 -- ---- the first field that passes a test
 unfoldable pub first_in : (ed : Edition) → (Field → Bool) → List Field → Outcome (List ℕ)
-first_in ed test [] = refused Absent
-first_in ed test (f ∷ fs) = cond (test f) (given (data_of ed f.nibbles)) (first_in ed test fs)
+first_in ed test [] = Err Absent
+first_in ed test (f ∷ fs) = cond (test f) (Ok (data_of ed f.nibbles)) (first_in ed test fs)
 
 pub of_key_is : (ed : Edition) (v t s : ℕ) (fs : List Field) → of_key ed v t s fs ≡ first_in ed (λ f. eqb f.volume v && (eqb f.track t && eqb f.sector s)) fs
 unfolding of_key first_in
 of_key_is ed v t s [] = refl
-of_key_is ed v t s (f ∷ fs) = ap (cond (eqb f.volume v && (eqb f.track t && eqb f.sector s)) (given (data_of ed f.nibbles))) (of_key_is ed v t s fs)
+of_key_is ed v t s (f ∷ fs) = ap (cond (eqb f.volume v && (eqb f.track t && eqb f.sector s)) (Ok (data_of ed f.nibbles))) (of_key_is ed v t s fs)
 
 pub bytes_at_is : (ed : Edition) (t s : ℕ) (fs : List Field) → bytes_at ed t s fs ≡ first_in ed (λ f. eqb f.track t && eqb (dos_sector ed f.sector) s) fs
 unfolding bytes_at first_in
 bytes_at_is ed t s [] = refl
-bytes_at_is ed t s (f ∷ fs) = ap (cond (eqb f.track t && eqb (dos_sector ed f.sector) s) (given (data_of ed f.nibbles))) (bytes_at_is ed t s fs)
+bytes_at_is ed t s (f ∷ fs) = ap (cond (eqb f.track t && eqb (dos_sector ed f.sector) s) (Ok (data_of ed f.nibbles))) (bytes_at_is ed t s fs)
 
 -- what is refused, then the other
 or_else : Outcome (List ℕ) → Outcome (List ℕ) → Outcome (List ℕ)
-or_else (refused r) o = o
-or_else (given b) o = given b
+or_else (Err r) o = o
+or_else (Ok b) o = Ok b
 
 -- ---- the bytes at a place
-pub sector_none : (ed : Edition) (s : List ℕ) (at : ℕ) → eqb at 0 ≡ true → sector_at ed s at ≡ refused Absent
+pub sector_none : (ed : Edition) (s : List ℕ) (at : ℕ) → eqb at 0 ≡ true → sector_at ed s at ≡ Err Absent
 unfolding sector_at
 sector_none ed s at t = rw t refl
 
-pub sector_some : (ed : Edition) (s : List ℕ) (at : ℕ) → eqb at 0 ≡ false → sector_at ed s at ≡ given (data_of ed (take (nibbles_of ed) (drop at s)))
+pub sector_some : (ed : Edition) (s : List ℕ) (at : ℕ) → eqb at 0 ≡ false → sector_at ed s at ≡ Ok (data_of ed (take (nibbles_of ed) (drop at s)))
 unfolding sector_at
 sector_some ed s at t = rw t refl
 
@@ -103,11 +104,11 @@ module _ (ed : Edition) (test : Field → Bool) where
       let one : Outcome (List ℕ) = first_in ed test (field_of ed s p ∷ []) in
       by_test (eqb at 0)
       (λ t.
-      let z : first_in ed test xs ≡ refused Absent = sym i ∙ sector_none ed s at t in
+      let z : first_in ed test xs ≡ Err Absent = sym i ∙ sector_none ed s at t in
       let w : first_place at b p.nibbles ≡ cond b p.nibbles 0 = rw t refl in
       ap (sector_at ed s) w ∙ first_one s p b e n ∙ sym (first_more xs (field_of ed s p) ∙ ap (λ o. or_else o one) z))
       (λ t.
-      let z : first_in ed test xs ≡ given (data_of ed (take (nibbles_of ed) (drop at s))) = sym i ∙ sector_some ed s at t in
+      let z : first_in ed test xs ≡ Ok (data_of ed (take (nibbles_of ed) (drop at s))) = sym i ∙ sector_some ed s at t in
       let w : first_place at b p.nibbles ≡ at = rw t refl in
       ap (sector_at ed s) w ∙ sector_some ed s at t ∙ sym (first_more xs (field_of ed s p) ∙ ap (λ o. or_else o one) z))
 
@@ -136,8 +137,8 @@ sums_turn ed f xs = sums_more ed f xs []
 
 -- ---- whether there is a first
 is_given : Outcome (List ℕ) → Bool
-is_given (refused r) = false
-is_given (given d) = true
+is_given (Err r) = false
+is_given (Ok d) = true
 
 first_any : (ed : Edition) (test : Field → Bool) (xs : List Field) → is_given (first_in ed test xs) ≡ any test xs
 unfolding first_in any is_given

@@ -1,4 +1,4 @@
--- `address_refusal`, `is_stranger`, `decode_first`, `complete`, `number_of`, `stranger_met`, `collect` and `denibblize` over plain variables.
+-- `address_refusal`, `decode_first`, `complete`, `end_refusal`, `collect` and `denibblize` over plain variables.
 -- Assumes nothing.
 use mathlib.Core.Path.{◌≡◌, refl, sym, ap, ◌∙◌}
 use mathlib.Core.Bool.{Bool, true, false, cond, not, ◌&&◌, ◌||◌}
@@ -7,7 +7,7 @@ use mathlib.Core.List.{List, [], ◌∷◌, ◌++◌, flatten}
 use Prim.Native.Nat.{ℕ, zero, suc, ◌+◌, ◌-◌, ◌*◌, ◌/◌, ◌%◌, ◌≤◌, ◌<◌}
 use native.Mathlib.Omega.{arith}
 use borrow.Author.Rules.{rules}
-use borrow.Author.Tests.{eq-eqb, ne_eqb, lt-ltb, le-ltb, eqb-true, ltb-false}
+use borrow.Author.Tests.{eq-eqb, ne_eqb, eqb-true, ltb-false}
 use lib.Dec.{eqb, ltb}
 use lib.ListN.{length, get_or, set, take, drop, replicate, length-set, length-replicate, get_or-replicate}
 use lib.Seq.{get_or-set_same, get_or-set_other, length-take-le, take-take}
@@ -16,19 +16,21 @@ use Rattle.lists.specs.Select.{all, any}
 use Rattle.lists.proofs.Cuts.{drop_take}
 use Rattle.lists.proofs.Put.{put_is, put_front, placed_put}
 use Rattle.lists.proofs.Split.{by_lt, by_test, both_true, clash, and_true, and_false}
-use Rattle.outcome.specs.declared.Handed.{Handed}
-use Rattle.outcome.specs.declared.Refusal.TheVariants.{AddressSum, DataSum, Absent, Stranger}
-use Rattle.outcome.specs.Outcome.{Outcome, refused, given, ◌>>=◌, ◌>>◌, require, each, number, refused_with, accepted_with, Hands}
-use Rattle.outcome.proofs.Outcome.{hands_number, hands_short, hands_over_lem, number_0, number_then, each_refuses, each_on}
+use Rattle.std.specs.Prelude.{Ok, Err}
+use Rattle.std.specs.Prelude.{Some, None}
+use Rattle.outcome.specs.declared.Refusal.{Refusal}
+use Rattle.outcome.specs.declared.Refusal.TheVariants.{AddressSum, DataSum, Absent, Stranger, TrayShort}
+use Rattle.outcome.specs.Outcome.{Outcome, ◌>>=◌, ◌>>◌, require, each, Hands}
+use Rattle.outcome.proofs.Outcome.{refused_given, hands_refused, hands_short, hands_over_lem, each_refuses, each_on}
 use Rattle.fields.specs.declared.Edition.{Edition}
 use Rattle.fields.specs.declared.FieldPair.{FieldPair}
 use Rattle.fields.specs.Editions.{nibbles_of, per_track, dos_sector, sum_of, data_of}
 use Rattle.fields.specs.Fields.{Field, fields}
 use Rattle.fields.specs.Scan.{pair_from, fields_from, field_of, Run}
 use Rattle.fields.proofs.Numbers.{per_some, per_small, number_track, number_sector, number_whole, number_below, dos_lt, same_sector}
-use Rattle.fields.proofs.Fields.{pair_bad, pair_end, pair_more, pair_fits, pair_less, run_more, run_from, run_all, run_bad, from_start}
+use Rattle.fields.proofs.Fields.{same_pair, pair_refused, pair_end, pair_more, pair_fits, pair_less, run_more, run_from, run_all, run_bad, from_start}
 use Rattle.stream.specs.Stream.{same_key, firsts, sums_ok, is_stranger, first_volume, bytes_at, image}
-use Rattle.stream.specs.Steps.{sector_at, first_place, strange, number_of, sum_counts, held_in, Complete, Decides, Meets, Collects}
+use Rattle.stream.specs.Steps.{sector_at, first_place, strange, number_of, sum_counts, held_in, Complete, Decides, address_sums, Collects}
 use Rattle.stream.specs.Steps
 use Rattle.stream.proofs.Firsts.{or_none, any_met, any_none, any_agree, any_place, bytes_at_is, sector_none, sector_some, first_turn, sums_turn}
 use Rattle.stream.proofs.Sizes.{length_data}
@@ -36,37 +38,26 @@ use Rattle.stream.proofs.Joins.{each_joins, put_here, put_before, put_behind}
 
 -- ---- address_refusal
 pub record Ahead (ed : Edition) (s : List ℕ) (i k : ℕ) : Type 0 where
-  pub same : number (fields_from ed s i) ≡ number (fields_from ed s k)
+  pub same : address_sums ed s i ≡ address_sums ed s k
 
 pub ahead_start : (ed : Edition) (s : List ℕ) (i : ℕ) → Ahead ed s i i
 ahead_start ed s i = record { same = refl }
 
-module _ (ed : Edition) (s : List ℕ) (i k : ℕ) (w : Ahead ed s i k) (p : FieldPair) (e : p ≡ pair_from ed s k) where
-  pub ahead_bad : (p.refusal ≡ 0 → ⊥) → 8 ≡ number (fields_from ed s i)
-  ahead_bad n = sym (w.same ∙ rw (pair_bad ed s k p e n).1 refl)
+module _ (ed : Edition) (s : List ℕ) (i k : ℕ) (w : Ahead ed s i k) where
+  pub ahead_bad : (h : Outcome (Unit {0})) (r : Refusal) → h ≡ Err r → Err r ≡ pair_from ed s k → h ≡ address_sums ed s i
+  ahead_bad h r q e = let b = pair_refused ed s k r e in q ∙ sym (w.same ∙ rw b.1 (ap Err (sym b.0)))
 
-  pub ahead_end : p.refusal ≡ 0 → p.next ≡ 0 → 0 ≡ number (fields_from ed s i)
-  ahead_end h z = sym (w.same ∙ rw (pair_end ed s k p e h z) refl)
+  pub ahead_end : Ok None ≡ pair_from ed s k → Ok tt ≡ address_sums ed s i
+  ahead_end e = sym (w.same ∙ rw (pair_end ed s k e) refl)
 
-  pub ahead_turn : (p.next ≡ 0 → ⊥) → Ahead ed s i p.next
-  ahead_turn n =
-      let m = pair_more ed s k p e n in
-      record { same = w.same ∙ rw m.fields (number_then (fields_from ed s p.next) (λ fs. field_of ed s p ∷ fs)) }
+  pub ahead_turn : (p : FieldPair) → Ok (Some p) ≡ pair_from ed s k → Ahead ed s i p.next
+  ahead_turn p e = let m = pair_more ed s k p e in record { same = w.same ∙ rw m.fields (go (fields_from ed s p.next)) }
+    where
+      go : (o : Outcome (List Field)) → ◌≡◌ {A = Outcome (Unit {0})} ((o >>= λ fs. Ok (field_of ed s p ∷ fs)) >> Ok tt) (o >> Ok tt)
+      go (Err r) = refl
+      go (Ok fs) = refl
 
 pub ruleset ahead = (ahead_start, ahead_bad, ahead_end, ahead_turn, pair_less, rules)
-
--- ---- is_stranger
-module _ (ed : Edition) (v : ℕ) (p : FieldPair) where
-  pub strange_volume : (p.volume ≡ v → ⊥) → true ≡ strange ed v p
-  strange_volume n = rw (ne_eqb p.volume v n) refl
-
-  pub strange_track : p.volume ≡ v → 34 < p.track → true ≡ strange ed v p
-  strange_track e h = rw (eq-eqb p.volume v e, lt-ltb 34 p.track h) refl
-
-  pub strange_sector : (n : ℕ) → n ≡ per_track ed → p.volume ≡ v → p.track ≤ 34 → ltb (n - 1) p.sector ≡ strange ed v p
-  strange_sector n k e h = rw (← k, eq-eqb p.volume v e, le-ltb 34 p.track h) refl
-
-pub ruleset strangers = (strange_volume, strange_track, strange_sector, rules)
 
 -- ---- decode_first
 module _ (ed : Edition) (s : List ℕ) (p : FieldPair) (old at : ℕ) (good : Bool) where
@@ -108,27 +99,20 @@ module _ (ed : Edition) (at : List ℕ) (k : ℕ) where
 
 pub ruleset having = (having_start, having_turn, having_not, having_all, rules)
 
--- ---- number_of and stranger_met
+-- ---- end_refusal
 module _ (ed : Edition) (good : Bool) (at : List ℕ) where
-  pub decide_sum : good ≡ false → Decides ed good at 9
+  pub decide_sum : good ≡ false → Decides ed good at (Err DataSum)
   decide_sum g = Steps.sum g refl
 
-  pub decide_absent : (b : Bool) → good ≡ true → Complete ed at b → b ≡ false → Decides ed good at 10
+  pub decide_absent : (b : Bool) → good ≡ true → Complete ed at b → b ≡ false → Decides ed good at (Err Absent)
   decide_absent b g (Steps.yes t h) f = absurd (clash (sym f ∙ t))
   decide_absent b g (Steps.no t k h z) f = Steps.absent g refl k h z
 
-  pub decide_all : (b : Bool) → good ≡ true → Complete ed at b → b ≡ true → Decides ed good at 0
+  pub decide_all : (b : Bool) → good ≡ true → Complete ed at b → b ≡ true → Decides ed good at (Ok tt)
   decide_all b g (Steps.yes t h) f = Steps.all g refl h
   decide_all b g (Steps.no t k h z) f = absurd (clash (sym t ∙ f))
 
-module _ (ed : Edition) (s : List ℕ) (i n : ℕ) (e : n ≡ number (fields_from ed s i)) where
-  pub meet_stranger : n ≡ 0 → Meets ed s i 11
-  meet_stranger z = Steps.stranger refl (sym e ∙ z)
-
-  pub meet_address : (n ≡ 0 → ⊥) → Meets ed s i n
-  meet_address z = Steps.address e z
-
-pub ruleset decided = (decide_sum, decide_absent, decide_all, meet_stranger, meet_address, rules)
+pub ruleset decided = (decide_sum, decide_absent, decide_all, rules)
 
 -- ---- collect
 eqb_swap : (a b : ℕ) → eqb a b ≡ eqb b a
@@ -161,7 +145,9 @@ key_agrees ed v f g e q =
 pub record Collecting (ed : Edition) (s : List ℕ) (v i : ℕ) (good : Bool) (at d₀ d : List ℕ) : Type 0 where
   pub met : List Field
   pub run : Run ed s 0 i met
-  pub volume : v ≡ (pair_from ed s 0).volume
+  pub first : FieldPair
+  pub opens : Ok (Some first) ≡ pair_from ed s 0
+  pub volume : v ≡ first.volume
   pub known_all : any (is_stranger ed v) met ≡ false
   pub sums : good ≡ sums_ok ed (firsts [] met)
   pub long : length at ≡ 560
@@ -170,7 +156,7 @@ pub record Collecting (ed : Edition) (s : List ℕ) (v i : ℕ) (good : Bool) (a
   pub room : 256 * (35 * per_track ed) ≤ length d₀
   pub held : (k : ℕ) → k < 35 * per_track ed → (get_or at k 0 ≡ 0 → ⊥) → take 256 (drop (256 * k) d) ≡ data_of ed (take (nibbles_of ed) (drop (get_or at k 0) s))
 
-pub collecting_start : (ed : Edition) (s at d : List ℕ) (f : FieldPair) → f ≡ pair_from ed s 0 → at ≡ replicate 560 0 → 256 * (35 * per_track ed) ≤ length d
+pub collecting_start : (ed : Edition) (s at d : List ℕ) (f : FieldPair) → Ok (Some f) ≡ pair_from ed s 0 → at ≡ replicate 560 0 → 256 * (35 * per_track ed) ≤ length d
     → Collecting ed s f.volume 0 true at d d
 unfolding bytes_at firsts all any
 collecting_start ed s at d f e z l =
@@ -178,7 +164,9 @@ collecting_start ed s at d f e z l =
     record {
       met = [];
       run = refl;
-      volume = ap (λ (x : FieldPair). x.volume) e;
+      first = f;
+      opens = e;
+      volume = refl;
       known_all = refl;
       sums = refl;
       long = rw z (length-replicate {A = ℕ} 560 0);
@@ -189,55 +177,68 @@ collecting_start ed s at d f e z l =
     }
 
 -- the volume of all fields is that of the first pair
-first_volume_lem : (ed : Edition) (s : List ℕ) (e : ℕ) (xs ys : List Field) (f : Field) → Run ed s 0 e xs → field_of ed s (pair_from ed s e) ≡ f
-    → first_volume (xs ++ (f ∷ ys)) ≡ (pair_from ed s 0).volume
-first_volume_lem ed s e [] ys f r q = sym (ap (λ (x : Field). x.volume) q) ∙ rw r refl
-first_volume_lem ed s e (x ∷ xs) ys f r q = sym (ap (λ (x : Field). x.volume) r.1)
+first_volume_lem : (ed : Edition) (s : List ℕ) (e : ℕ) (xs ys : List Field) (f p : FieldPair) → Ok (Some f) ≡ pair_from ed s 0 → Run ed s 0 e xs → Ok (Some p) ≡ pair_from ed s e
+    → first_volume (xs ++ (field_of ed s p ∷ ys)) ≡ f.volume
+first_volume_lem ed s e [] ys f p o r q = ap (λ (x : FieldPair). x.volume) (same_pair (q ∙ ap (pair_from ed s) (sym r)) o)
+first_volume_lem ed s e (x ∷ xs) ys f p o r q = sym (ap (λ (x : Field). x.volume) r.2) ∙ ap (λ (x : FieldPair). x.volume) (same_pair r.1 o)
 
 -- a field that is put at the place `old` of its sector, or is not put
 first_old : (a m : ℕ) → first_place a false m ≡ a
 first_old a m = by_test (eqb a 0) (λ t. rw t (sym (eqb-true a 0 t))) (λ t. rw t refl)
 
-module _ (ed : Edition) (s : List ℕ) (v i : ℕ) (good : Bool) (at d₀ d : List ℕ) (w : Collecting ed s v i good at d₀ d) (p : FieldPair) (e : p ≡ pair_from ed s i) where
-  pub collect_bad : (p.refusal ≡ 0 → ⊥) → Collects ed s d 8
+-- the first pair is refused
+pub collect_first : (ed : Edition) (s d : List ℕ) (h : Outcome (Unit {0})) (r : Refusal) → h ≡ Err r → Err r ≡ pair_from ed s 0 → Collects ed s d h
+unfolding image
+collect_first ed s d h r q e =
+    let b = pair_refused ed s 0 r e in
+    let o : image ed s ≡ Err AddressSum = rw (run_bad ed s 0 [] refl b.1) refl in
+    rw (q, b.0) (record { is = o })
+
+pub collect_bad : (ed : Edition) (s : List ℕ) (v i : ℕ) (good : Bool) (at d₀ d : List ℕ) → Collecting ed s v i good at d₀ d → (h : Outcome (Unit {0})) (r : Refusal) → h ≡ Err r
+    → Err r ≡ pair_from ed s i → Collects ed s d h
+unfolding image
+collect_bad ed s v i good at d₀ d w h r q e =
+    let b = pair_refused ed s i r e in
+    let o : image ed s ≡ Err AddressSum = rw (run_bad ed s i w.met w.run b.1) refl in
+    rw (q, b.0) (record { is = o })
+
+module _ (ed : Edition) (s : List ℕ) (v i : ℕ) (good : Bool) (at d₀ d : List ℕ) (w : Collecting ed s v i good at d₀ d) (p : FieldPair) (e : Ok (Some p) ≡ pair_from ed s i) where
+  -- all fields, where the rest of them is given
+  met_fields : (rest : List Field) → fields_from ed s p.next ≡ Ok rest → fields ed (length s) s ≡ Ok (w.met ++ (field_of ed s p ∷ rest))
+  met_fields rest g =
+      let m = pair_more ed s i p e in
+      sym (from_start ed s) ∙ run_from ed s i w.met 0 w.run ∙ rw (m.fields, g) refl
+
+  -- .. or refused: what stands behind the pair decides between 8 and 11
+  pub collect_sum : (h : Outcome (Unit {0})) (r : Refusal) → h ≡ Err r → Err r ≡ address_sums ed s p.next → Collects ed s d h
   unfolding image
-  collect_bad h =
-      let o : image ed s ≡ refused AddressSum = rw (run_bad ed s i w.met w.run (pair_bad ed s i p e h).1) refl in
-      record { number_is = rw o refl; image_is = λ z. absurd (omega arith) }
+  collect_sum h r k q = rw k (go (fields_from ed s p.next) refl)
+    where
+      go : (o : Outcome (List Field)) → fields_from ed s p.next ≡ o → Collects ed s d (Err r)
+      go (Ok rest) g = let z : Err r ≡ Ok tt = rw g at q in absurd (refused_given z)
+      go (Err t) g =
+          let z : Err r ≡ Err t = rw g at q in
+          let y : t ≡ r = cc in
+          let m = pair_more ed s i p e in
+          let a : fields ed (length s) s ≡ Err t = sym (from_start ed s) ∙ run_from ed s i w.met 0 w.run ∙ rw (m.fields, g) refl in
+          let b : image ed s ≡ Err t = rw a refl in
+          record { is = b ∙ ap Err y }
 
-  module _ (n : p.next ≡ 0 → ⊥) (b : Bool) (q : b ≡ strange ed v p) where
-    -- all fields, where the rest of them is given
-    met_fields : (rest : List Field) → fields_from ed s p.next ≡ given rest → fields ed (length s) s ≡ given (w.met ++ (field_of ed s p ∷ rest))
-    met_fields rest g =
-        let m = pair_more ed s i p e n in
-        sym (from_start ed s) ∙ run_from ed s i w.met 0 w.run ∙ rw (m.fields, g) refl
-
-    met_strange : (rest : List Field) → b ≡ true → fields_from ed s p.next ≡ given rest → image ed s ≡ refused Stranger
+  module _ (b : Bool) (q : b ≡ strange ed v p) where
+    met_strange : (rest : List Field) → b ≡ true → fields_from ed s p.next ≡ Ok rest → image ed s ≡ Err Stranger
     unfolding image
     met_strange rest t g =
         let f : Field = field_of ed s p in
-        let u : first_volume (w.met ++ (f ∷ rest)) ≡ v = first_volume_lem ed s i w.met rest f w.run (ap (field_of ed s) (sym e)) ∙ sym w.volume in
+        let u : first_volume (w.met ++ (f ∷ rest)) ≡ v = first_volume_lem ed s i w.met rest w.first p w.opens w.run e ∙ sym w.volume in
         let h : any (is_stranger ed (first_volume (w.met ++ (f ∷ rest)))) (w.met ++ (f ∷ rest)) ≡ true = rw u (any_met (is_stranger ed v) w.met rest f (sym q ∙ t)) in
         rw (met_fields rest g, h) refl
 
-    -- .. or refused
-    met_refused : (o : Outcome (List Field)) → fields_from ed s p.next ≡ o → (number o ≡ 0 → ⊥) → number (image ed s) ≡ number o
-    unfolding image
-    met_refused (given rest) g z = absurd (z refl)
-    met_refused (refused r) g z =
-        let m = pair_more ed s i p e n in
-        let a : fields ed (length s) s ≡ refused r = sym (from_start ed s) ∙ run_from ed s i w.met 0 w.run ∙ rw (m.fields, g) refl in
-        rw a refl
-
-    -- what stands behind the pair decides between 8 and 11
-    pub collect_stranger : (r : ℕ) → b ≡ true → Meets ed s p.next r → Collects ed s d r
-    collect_stranger r t (Steps.stranger z y) =
-        let g = number_0 (fields_from ed s p.next) y in
-        let o : image ed s ≡ refused Stranger = met_strange g.0 t g.1 in
-        record { number_is = z ∙ rw o refl; image_is = λ k. absurd (omega arith) }
-    collect_stranger r t (Steps.address z y) =
-        let o : number (image ed s) ≡ number (fields_from ed s p.next) = met_refused (fields_from ed s p.next) refl (λ k. y (z ∙ k)) in
-        record { number_is = z ∙ sym o; image_is = λ k. absurd (y k) }
+    pub collect_stranger : (u : Unit {0}) → b ≡ true → Ok u ≡ address_sums ed s p.next → Collects ed s d (Err Stranger)
+    collect_stranger u t q = go (fields_from ed s p.next) refl
+      where
+        go : (o : Outcome (List Field)) → fields_from ed s p.next ≡ o → Collects ed s d (Err Stranger)
+        go (Ok rest) g = record { is = met_strange rest t g }
+        go (Err r) g = let z : Ok u ≡ Err r = rw g at q in absurd (refused_given (sym z))
 
     -- a pair that is no stranger is on the disk
     pub track_in_lem : b ≡ false → p.track ≤ 34
@@ -326,7 +327,7 @@ module _ (ed : Edition) (s : List ℕ) (v i : ℕ) (good : Bool) (at d₀ d : Li
           → o ≡ held_in ed s p (get_or at k 0) (256 * k) d → Collecting ed s v p.next g (set at k a) d₀ o
       collecting_turn g a o eg ea eo =
           let f : Field = field_of ed s p in
-          let m = pair_more ed s i p e n in
+          let m = pair_more ed s i p e in
           let nz : p.nibbles ≡ 0 → ⊥ = λ z. omega (arith, m.behind_i) in
           let hk : k < length at = omega (arith, number_lt, w.long, per_small ed) in
           let turn : (j : ℕ) → j < 35 * per_track ed → (c : Bool) → c ≡ wants j f → sector_at ed s (first_place (get_or at j 0) c p.nibbles) ≡ bytes_at ed (j / per_track ed) (j % per_track ed) (w.met ++ (f ∷ [])) =
@@ -334,7 +335,9 @@ module _ (ed : Edition) (s : List ℕ) (v i : ℕ) (good : Bool) (at d₀ d : Li
           let y = held_turn a o ea eo in
           record {
             met = w.met ++ (f ∷ []);
-            run = run_more ed s i p e n w.met 0 w.run;
+            run = run_more ed s i p e w.met 0 w.run;
+            first = w.first;
+            opens = w.opens;
             volume = w.volume;
             known_all = any_none (is_stranger ed v) w.met f w.known_all (sym q ∙ t);
             sums = eg ∙ rw w.sums (sym (sums_turn ed f w.met ∙ rw came_before refl));
@@ -350,8 +353,8 @@ module _ (ed : Edition) (s : List ℕ) (v i : ℕ) (good : Bool) (at d₀ d : Li
 
 -- ---- the end of the scan
 -- one sector that is absent, and no other refusal
-each_absent : (f : ℕ → Outcome (List ℕ)) (h : ℕ → ℕ) (n : ℕ) → ((k : ℕ) → k < n → (f (h k) ≡ refused Absent) ⊎ ((d : List ℕ) × (f (h k) ≡ given d)))
-    → (k : ℕ) → k < n → f (h k) ≡ refused Absent → each f (tab h n) ≡ refused Absent
+each_absent : (f : ℕ → Outcome (List ℕ)) (h : ℕ → ℕ) (n : ℕ) → ((k : ℕ) → k < n → (f (h k) ≡ Err Absent) ⊎ ((d : List ℕ) × (f (h k) ≡ Ok d)))
+    → (k : ℕ) → k < n → f (h k) ≡ Err Absent → each f (tab h n) ≡ Err Absent
 unfolding tab
 each_absent f h zero all k l e = absurd (omega arith)
 each_absent f h (suc n) all zero l e = each_refuses f (h zero) (tab (λ j. h (suc j)) n) Absent e
@@ -361,88 +364,96 @@ each_absent f h (suc n) all (suc k) l e =
     ∙ rw (each_absent f (λ j. h (suc j)) n (λ j i. all (suc j) (omega arith)) k (omega arith) e) refl)
     (all zero (omega arith))
 
-module _ (ed : Edition) (s : List ℕ) (v i : ℕ) (good : Bool) (at d₀ d : List ℕ) (w : Collecting ed s v i good at d₀ d) (p : FieldPair) (e : p ≡ pair_from ed s i)
-    (h : p.refusal ≡ 0) (z : p.next ≡ 0) where
+module _ (ed : Edition) (s : List ℕ) (v i : ℕ) (good : Bool) (at d₀ d : List ℕ) (w : Collecting ed s v i good at d₀ d) (e : Ok None ≡ pair_from ed s i) where
   -- the sectors one after the other
   sectors_of : Outcome (List ℕ)
-  sectors_of = each (λ k. bytes_at ed (k / per_track ed) (k % per_track ed) w.met) (below (35 * per_track ed)) >>= λ ss. given (flatten ss)
+  sectors_of = each (λ k. bytes_at ed (k / per_track ed) (k % per_track ed) w.met) (below (35 * per_track ed)) >>= λ ss. Ok (flatten ss)
 
   volume_known : (xs : List Field) → Run ed s 0 i xs → any (is_stranger ed v) xs ≡ false → any (is_stranger ed (first_volume xs)) xs ≡ false
   unfolding any
   volume_known [] r k = refl
   volume_known (x ∷ xs) r k =
-      let u : x.volume ≡ v = sym (ap (λ (y : Field). y.volume) r.1) ∙ sym w.volume in
+      let u : x.volume ≡ v = sym (ap (λ (y : Field). y.volume) r.2) ∙ ap (λ (y : FieldPair). y.volume) (same_pair r.1 w.opens) ∙ sym w.volume in
       ap (λ (n : ℕ). any (is_stranger ed n) (x ∷ xs)) u ∙ k
 
-  image_end : image ed s ≡ cond good sectors_of (refused DataSum)
+  image_end : image ed s ≡ cond good sectors_of (Err DataSum)
   unfolding image sectors_of
   image_end =
-      rw (run_all ed s i w.met w.run (pair_end ed s i p e h z), volume_known w.met w.run w.known_all, ← w.sums) (go good)
+      rw (run_all ed s i w.met w.run (pair_end ed s i e), volume_known w.met w.run w.known_all, ← w.sums) (go good)
     where
-      go : (b : Bool) → (require b DataSum >> each (λ k. bytes_at ed (k / per_track ed) (k % per_track ed) w.met) (below (35 * per_track ed)) >>= λ ss. given (flatten ss))
-          ≡ cond b (each (λ k. bytes_at ed (k / per_track ed) (k % per_track ed) w.met) (below (35 * per_track ed)) >>= λ ss. given (flatten ss)) (refused DataSum)
+      go : (b : Bool) → (require b DataSum >> each (λ k. bytes_at ed (k / per_track ed) (k % per_track ed) w.met) (below (35 * per_track ed)) >>= λ ss. Ok (flatten ss))
+          ≡ cond b (each (λ k. bytes_at ed (k / per_track ed) (k % per_track ed) w.met) (below (35 * per_track ed)) >>= λ ss. Ok (flatten ss)) (Err DataSum)
       go true = refl
       go false = refl
 
   -- each sector is there or absent
-  there : (k : ℕ) → k < 35 * per_track ed → (bytes_at ed (k / per_track ed) (k % per_track ed) w.met ≡ refused Absent) ⊎ ((d : List ℕ) × (bytes_at ed (k / per_track ed) (k % per_track ed) w.met ≡ given d))
+  there : (k : ℕ) → k < 35 * per_track ed → (bytes_at ed (k / per_track ed) (k % per_track ed) w.met ≡ Err Absent) ⊎ ((d : List ℕ) × (bytes_at ed (k / per_track ed) (k % per_track ed) w.met ≡ Ok d))
   there k l =
       by_test (eqb (get_or at k 0) 0) (λ t. inl (sym (w.placed_at k l) ∙ sector_none ed s (get_or at k 0) t))
       (λ t. inr (data_of ed (take (nibbles_of ed) (drop (get_or at k 0) s)), sym (w.placed_at k l) ∙ sector_some ed s (get_or at k 0) t))
 
-  absent_end : (k : ℕ) → k < 35 * per_track ed → get_or at k 0 ≡ 0 → sectors_of ≡ refused Absent
+  absent_end : (k : ℕ) → k < 35 * per_track ed → get_or at k 0 ≡ 0 → sectors_of ≡ Err Absent
   unfolding sectors_of
   absent_end k l u =
-      let a : bytes_at ed (k / per_track ed) (k % per_track ed) w.met ≡ refused Absent = sym (w.placed_at k l) ∙ sector_none ed s (get_or at k 0) (eq-eqb (get_or at k 0) 0 u) in
+      let a : bytes_at ed (k / per_track ed) (k % per_track ed) w.met ≡ Err Absent = sym (w.placed_at k l) ∙ sector_none ed s (get_or at k 0) (eq-eqb (get_or at k 0) 0 u) in
       rw (each_absent (λ k. bytes_at ed (k / per_track ed) (k % per_track ed) w.met) (λ k. k) (35 * per_track ed) there k l a) refl
 
-  all_end : ((k : ℕ) → k < 35 * per_track ed → get_or at k 0 ≡ 0 → ⊥) → sectors_of ≡ given (take (256 * (35 * per_track ed)) d)
+  all_end : ((k : ℕ) → k < 35 * per_track ed → get_or at k 0 ≡ 0 → ⊥) → sectors_of ≡ Ok (take (256 * (35 * per_track ed)) d)
   unfolding sectors_of
   all_end n =
       each_joins (λ k. bytes_at ed (k / per_track ed) (k % per_track ed) w.met) (λ k. k) (35 * per_track ed) (take (256 * (35 * per_track ed)) d)
       (length-take-le (256 * (35 * per_track ed)) d (omega (arith, w.size, w.room)))
-      (λ k l. sym (w.placed_at k l) ∙ sector_some ed s (get_or at k 0) (ne_eqb (get_or at k 0) 0 (n k l)) ∙ ap given (sym (sector_of_lem k l ∙ w.held k l (n k l))))
+      (λ k l. sym (w.placed_at k l) ∙ sector_some ed s (get_or at k 0) (ne_eqb (get_or at k 0) 0 (n k l)) ∙ ap Ok (sym (sector_of_lem k l ∙ w.held k l (n k l))))
     where
       -- a sector of the front of d
       sector_of_lem : (k : ℕ) → k < 35 * per_track ed → take 256 (drop (256 * k) (take (256 * (35 * per_track ed)) d)) ≡ take 256 (drop (256 * k) d)
       sector_of_lem k l = ap (take 256) (drop_take (256 * k) (256 * (35 * per_track ed)) d) ∙ take-take 256 (256 * (35 * per_track ed) - 256 * k) (drop (256 * k) d) (omega arith)
 
-  pub collect_end : (r : ℕ) → Decides ed good at r → Collects ed s d r
+  pub collect_end : (r : Outcome (Unit {0})) → Decides ed good at r → Collects ed s d r
   collect_end r (Steps.sum g q) =
-      let o : image ed s ≡ refused DataSum = image_end ∙ ap (λ b. cond b sectors_of (refused DataSum)) g in
-      rw q (record { number_is = rw o refl; image_is = λ k. absurd (omega arith) })
+      let o : image ed s ≡ Err DataSum = image_end ∙ ap (λ b. cond b sectors_of (Err DataSum)) g in
+      rw q (record { is = o })
   collect_end r (Steps.absent g q k l u) =
-      let o : image ed s ≡ refused Absent = image_end ∙ ap (λ b. cond b sectors_of (refused DataSum)) g ∙ absent_end k l u in
-      rw q (record { number_is = rw o refl; image_is = λ k. absurd (omega arith) })
+      let o : image ed s ≡ Err Absent = image_end ∙ ap (λ b. cond b sectors_of (Err DataSum)) g ∙ absent_end k l u in
+      rw q (record { is = o })
   collect_end r (Steps.all g q n) =
-      let o : image ed s ≡ given (take (256 * (35 * per_track ed)) d) = image_end ∙ ap (λ b. cond b sectors_of (refused DataSum)) g ∙ all_end n in
-      rw q (record { number_is = rw o refl; image_is = λ k. o })
+      let o : image ed s ≡ Ok (take (256 * (35 * per_track ed)) d) = image_end ∙ ap (λ b. cond b sectors_of (Err DataSum)) g ∙ all_end n in
+      rw q (record { is = o })
+
+-- no pair at all
+pub collect_none : (ed : Edition) (s d : List ℕ) → Ok None ≡ pair_from ed s 0 → Collects ed s d (Err Absent)
+unfolding image bytes_at firsts all any
+collect_none ed s d e =
+    let a : fields ed (length s) s ≡ Ok [] = sym (from_start ed s) ∙ pair_end ed s 0 e in
+    let b : each (λ k. bytes_at ed (k / per_track ed) (k % per_track ed) []) (below (35 * per_track ed)) ≡ Err Absent =
+    each_absent (λ k. bytes_at ed (k / per_track ed) (k % per_track ed) []) (λ k. k) (35 * per_track ed) (λ k l. inl refl) 0 (omega (arith, per_some ed)) refl in
+    record { is = rw (a, b) refl }
 
 pub ruleset collecting =
-    (collecting_start, collect_bad, pair_fits, pair_less, collect_stranger, track_in_lem, sector_in_lem, number_room, collecting_turn, collect_end, rules)
+    (collecting_start, collect_first, collect_none, collect_bad, pair_fits, pair_less, collect_sum, collect_stranger, track_in_lem, sector_in_lem, number_room, collecting_turn, collect_end, rules)
 
 -- ---- denibblize: room for either edition, and the returns
 pub disk_room : (ed : Edition) (d : List ℕ) → length d ≡ 143360 → 256 * (35 * per_track ed) ≤ length d
 disk_room ed d e = omega (arith, per_small ed)
 
-module _ (ed : Edition) (s out d : List ℕ) (r : ℕ) (w : Collects ed s d r) where
-  pub image_refused : (h : Handed) → (r ≡ 0 → ⊥) → h ≡ refused_with r → Hands (image ed s) out out h
-  image_refused = hands_number (image ed s) out r w.number_is
+module _ (ed : Edition) (s out d : List ℕ) where
+  pub image_refused : (h : Outcome ℕ) (r : Refusal) → h ≡ Err r → Collects ed s d (Err r) → Hands (image ed s) out out h
+  image_refused h r q w = hands_refused (image ed s) out r w.is h q
 
-  module _ (z : r ≡ 0) (n : ℕ) (en : n ≡ per_track ed) (room : length d ≡ 143360) where
+  module _ (u : Unit {0}) (w : Collects ed s d (Ok u)) (n : ℕ) (en : n ≡ per_track ed) (room : length d ≡ 143360) where
     -- the disk has its length
     front_long : length (take (256 * (35 * per_track ed)) d) ≡ 256 * (35 * n)
     front_long = rw (← en) (length-take-le (256 * (35 * n)) d (omega (arith, per_small ed)))
 
-    pub image_short : (h : Handed) → length out < 256 * (35 * n) → h ≡ refused_with 12 → Hands (image ed s) out out h
-    image_short h l e = hands_short (image ed s) out (take (256 * (35 * per_track ed)) d) (w.image_is z) (rw front_long l) h e
+    pub image_short : length out < 256 * (35 * n) → Hands (image ed s) out out (Err TrayShort)
+    image_short l = hands_short (image ed s) out (take (256 * (35 * per_track ed)) d) w.is (rw front_long l) (Err TrayShort) refl
 
-    pub image_done : (h : Handed) (after : List ℕ) → 256 * (35 * n) ≤ length out → after ≡ placed 0 (take (256 * (35 * n) - 0) (drop 0 d)) out
-        → h ≡ accepted_with (256 * (35 * n)) → Hands (image ed s) out after h
-    image_done h after l q e =
+    pub image_done : (after : List ℕ) → 256 * (35 * n) ≤ length out → after ≡ placed 0 (take (256 * (35 * n) - 0) (drop 0 d)) out
+        → Hands (image ed s) out after (Ok (256 * (35 * n)))
+    image_done after l q =
         let x : List ℕ = take (256 * (35 * per_track ed)) d in
         let f : 256 * (35 * n) - 0 ≡ 256 * (35 * per_track ed) = omega arith in
         let u : after ≡ placed 0 x out = q ∙ rw f refl in
-        hands_over_lem (image ed s) out after x (w.image_is z) (rw front_long l) (put_front (placed_put u (rw front_long (omega arith)))) h (rw front_long e)
+        hands_over_lem (image ed s) out after x w.is (rw front_long l) (put_front (placed_put u (rw front_long (omega arith)))) (Ok (256 * (35 * n))) (rw front_long refl)
 
 pub ruleset imaged = (disk_room, image_refused, image_short, image_done, rules)

@@ -7,30 +7,31 @@ use lib.ListN.{length, take, drop, length-drop, take-append-drop}
 use lib.Seq.{drop-drop, drop_at, drop-append-add, take_at, take-take, take-append-le, drop-append-le, length-take-le}
 use Rattle.lists.specs.Fill.{tab, put}
 use Rattle.lists.proofs.Cuts.{drop_take}
-use Rattle.outcome.specs.Outcome.{Outcome, refused, given, ◌>>=◌, each}
+use Rattle.std.specs.Prelude.{Ok, Err}
+use Rattle.outcome.specs.Outcome.{Outcome, ◌>>=◌, each}
 
 -- y in front of what o gives
-join : (o : Outcome (List (List ℕ))) (y d : List ℕ) → (o >>= λ ss. given (flatten ss)) ≡ given d
-    → ((o >>= λ ys. given (y ∷ ys)) >>= λ ss. given (flatten ss)) ≡ given (y ++ d)
+join : (o : Outcome (List (List ℕ))) (y d : List ℕ) → (o >>= λ ss. Ok (flatten ss)) ≡ Ok d
+    → ((o >>= λ ys. Ok (y ∷ ys)) >>= λ ss. Ok (flatten ss)) ≡ Ok (y ++ d)
 unfolding flatten
-join (refused r) y d e = cc
-join (given ys) y d e = cc
+join (Err r) y d e = cc
+join (Ok ys) y d e = cc
 
 -- where each call gives its 256 bytes of d, all together give d
 pub each_joins : (f : ℕ → Outcome (List ℕ)) (h : ℕ → ℕ) (n : ℕ) (d : List ℕ) → length d ≡ 256 * n
-    → ((k : ℕ) → k < n → f (h k) ≡ given (take 256 (drop (256 * k) d)))
-    → (each f (tab h n) >>= λ ss. given (flatten ss)) ≡ given d
+    → ((k : ℕ) → k < n → f (h k) ≡ Ok (take 256 (drop (256 * k) d)))
+    → (each f (tab h n) >>= λ ss. Ok (flatten ss)) ≡ Ok d
 unfolding each tab flatten
 each_joins f h zero [] l all = refl
 each_joins f h zero (x ∷ d) l all = absurd (omega arith)
 each_joins f h (suc n) d l all =
-    let later : (k : ℕ) → k < n → f (h (suc k)) ≡ given (take 256 (drop (256 * k) (drop 256 d))) =
+    let later : (k : ℕ) → k < n → f (h (suc k)) ≡ Ok (take 256 (drop (256 * k) (drop 256 d))) =
     λ k i. let e : 256 * suc k ≡ 256 + 256 * k = omega arith in all (suc k) (omega arith) ∙ rw (e, drop-drop) refl
     in
     rw (all zero (omega arith))
     (join (each f (tab (λ k. h (suc k)) n)) (take 256 d) (drop 256 d)
     (each_joins f (λ k. h (suc k)) n (drop 256 d) (length-drop 256 d ∙ omega arith) later)
-    ∙ ap given (take-append-drop 256 d))
+    ∙ ap Ok (take-append-drop 256 d))
 
 -- ---- L elements x put in from place `at`
 module _ (at L : ℕ) (x d : List ℕ) (lx : length x ≡ L) (room : at + L ≤ length d) where

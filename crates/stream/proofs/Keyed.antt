@@ -1,4 +1,4 @@
--- `has_key`, `repeated`, `sums_right`, `first_place`, `verdict_of`, `locate`, `put_data` and `sector_of` over plain variables. Assumes nothing.
+-- `repeated`, `sums_right`, `first_place`, `verdict_of`, `locate`, `put_data` and `sector_of` over plain variables. Assumes nothing.
 use mathlib.Core.Path.{◌≡◌, refl, sym, ap, ◌∙◌}
 use mathlib.Core.Bool.{Bool, true, false, cond, ◌&&◌}
 use mathlib.Core.List.{List, [], ◌∷◌, ◌++◌}
@@ -15,10 +15,12 @@ use Rattle.lists.specs.Fill.{put, placed}
 use Rattle.lists.specs.Select.{all, any}
 use Rattle.lists.proofs.Put.{put_is, put_front, put_part, placed_put}
 use Rattle.lists.proofs.Split.{by_test, clash}
-use Rattle.outcome.specs.declared.Handed.{Handed}
-use Rattle.outcome.specs.declared.Refusal.TheVariants.{AddressSum, DataSum, Absent}
-use Rattle.outcome.specs.Outcome.{Outcome, refused, given, ◌>>◌, require, refused_with, accepted_with, Hands}
-use Rattle.outcome.proofs.Outcome.{hands_number, hands_short, hands_over_lem}
+use Rattle.std.specs.Prelude.{Ok, Err}
+use Rattle.std.specs.Prelude.{Some, None}
+use Rattle.outcome.specs.declared.Refusal.{Refusal}
+use Rattle.outcome.specs.declared.Refusal.TheVariants.{AddressSum, DataSum, Absent, TrayShort}
+use Rattle.outcome.specs.Outcome.{Outcome, ◌>>◌, require, Hands}
+use Rattle.outcome.proofs.Outcome.{refused_given, hands_refused, hands_short, hands_over_lem}
 use Rattle.nibble.specs.Nibble.{decode}
 use Rattle.nibble.specs.FiveThree.{decode53}
 use Rattle.fields.specs.declared.Edition.{Edition}
@@ -27,26 +29,12 @@ use Rattle.fields.specs.declared.FieldPair.{FieldPair}
 use Rattle.fields.specs.Editions.{nibbles_of, sum_of, data_of}
 use Rattle.fields.specs.Fields.{Field}
 use Rattle.fields.specs.Scan.{pair_from, field_of, Run}
-use Rattle.fields.proofs.Fields.{pair_bad, pair_end, pair_more, pair_fits, pair_less, run_more, run_all, run_bad, run_le}
+use Rattle.fields.proofs.Fields.{none_some, same_pair, pair_refused, pair_end, pair_more, pair_fits, pair_less, run_more, run_all, run_bad, run_le}
 use Rattle.stream.specs.Stream.{same_key, firsts, sums_ok, of_key, sector_of}
 use Rattle.stream.specs.Steps.{Repeats, Judges, sector_at, first_place, keyed, verdict, Locates}
-use Rattle.stream.specs.declared.Located.{Located}
 use Rattle.stream.proofs.Sizes.{length_data}
 use Rattle.stream.proofs.Numbers.{part_fits, sum_16, sum_13}
 use Rattle.stream.proofs.Firsts.{or_true, or_false, of_key_is, sector_none, sector_some, first_turn, sums_turn}
-
--- ---- has_key
-module _ (v t s : ℕ) (p : FieldPair) where
-  pub key_volume : (p.volume ≡ v → ⊥) → false ≡ keyed v t s p
-  key_volume n = rw (ne_eqb p.volume v n) refl
-
-  pub key_track : p.volume ≡ v → (p.track ≡ t → ⊥) → false ≡ keyed v t s p
-  key_track e n = rw (eq-eqb p.volume v e, ne_eqb p.track t n) refl
-
-  pub key_sector : p.volume ≡ v → p.track ≡ t → eqb p.sector s ≡ keyed v t s p
-  key_sector e q = rw (eq-eqb p.volume v e, eq-eqb p.track t q) refl
-
-pub ruleset keys = (key_volume, key_track, key_sector, rules)
 
 -- ---- first_place and verdict_of
 module _ (at n : ℕ) (b : Bool) where
@@ -60,13 +48,13 @@ module _ (at n : ℕ) (b : Bool) where
   place_old z = rw (ne_eqb at 0 z) refl
 
 module _ (good : Bool) (at : ℕ) where
-  pub verdict_absent : good ≡ true → at ≡ 0 → record { refusal = 10; nibbles = 0 } ≡ verdict good at
+  pub verdict_absent : good ≡ true → at ≡ 0 → Err Absent ≡ verdict good at
   verdict_absent g z = rw (g, eq-eqb at 0 z) refl
 
-  pub verdict_found : good ≡ true → (at ≡ 0 → ⊥) → record { refusal = 0; nibbles = at } ≡ verdict good at
+  pub verdict_found : good ≡ true → (at ≡ 0 → ⊥) → Ok at ≡ verdict good at
   verdict_found g z = rw (g, ne_eqb at 0 z) refl
 
-  pub verdict_sum : good ≡ false → record { refusal = 9; nibbles = 0 } ≡ verdict good at
+  pub verdict_sum : good ≡ false → Err DataSum ≡ verdict good at
   verdict_sum g = rw g refl
 
 pub ruleset verdicts = (place_new, place_no, place_old, verdict_absent, verdict_found, verdict_sum, rules)
@@ -80,24 +68,30 @@ module _ (ed : Edition) (s : List ℕ) (e : ℕ) (p : FieldPair) where
   left_start = record { is = λ xs r. (xs, r, refl) }
 
   module _ (i : ℕ) (l : Left ed s e p i) where
-    pub left_none : (q : FieldPair) → i < e → q ≡ pair_from ed s i → q.next ≡ 0 → Repeats ed s e p false
-    left_none q h eq z = record { is = λ xs r. let w = l.is xs r in go w.0 w.1 }
+    left_none : i < e → ((q : FieldPair) → Ok (Some q) ≡ pair_from ed s i → ⊥) → Repeats ed s e p false
+    left_none h n = record { is = λ xs r. let w = l.is xs r in go w.0 w.1 }
       where
         go : {b : Bool} (ys : List Field) → Run ed s i e ys → false ≡ b
         go [] r = absurd (omega arith)
-        go (y ∷ ys) r = absurd (omega (arith, r.0, z, ap (λ (x : FieldPair). x.next) eq))
+        go (y ∷ ys) r = absurd (n r.0 r.1)
 
-    pub left_hit : (q : FieldPair) (b : Bool) → i < e → q ≡ pair_from ed s i → b ≡ keyed q.volume q.track q.sector p → b ≡ true → Repeats ed s e p true
+    pub left_refused : (r : Refusal) → i < e → Err r ≡ pair_from ed s i → Repeats ed s e p false
+    left_refused r h q = left_none h (λ x k. refused_given (q ∙ sym k))
+
+    pub left_missing : i < e → Ok None ≡ pair_from ed s i → Repeats ed s e p false
+    left_missing h q = left_none h (λ x k. none_some (q ∙ sym k))
+
+    pub left_hit : (q : FieldPair) (b : Bool) → i < e → Ok (Some q) ≡ pair_from ed s i → b ≡ keyed q.volume q.track q.sector p → b ≡ true → Repeats ed s e p true
     unfolding any
     left_hit q b h eq k t = record { is = λ xs r. let w = l.is xs r in sym (w.2 ∙ go w.0 w.1) }
       where
         go : (ys : List Field) → Run ed s i e ys → any (same_key (field_of ed s p)) ys ≡ true
         go [] r = absurd (omega arith)
         go (y ∷ ys) r =
-            let u : same_key (field_of ed s p) y ≡ true = rw (← r.1, ← eq, ← k) t in
+            let u : same_key (field_of ed s p) y ≡ true = rw (← r.2, same_pair r.1 eq, ← k) t in
             rw u refl
 
-    pub left_turn : (q : FieldPair) (b : Bool) → i < e → q ≡ pair_from ed s i → b ≡ keyed q.volume q.track q.sector p → b ≡ false → Left ed s e p q.next
+    pub left_turn : (q : FieldPair) (b : Bool) → i < e → Ok (Some q) ≡ pair_from ed s i → b ≡ keyed q.volume q.track q.sector p → b ≡ false → Left ed s e p q.next
     unfolding any
     left_turn q b h eq k t = record { is = λ xs r. let w = l.is xs r in go xs w.0 w.1 w.2 }
       where
@@ -105,11 +99,12 @@ module _ (ed : Edition) (s : List ℕ) (e : ℕ) (p : FieldPair) where
             → (ys : List Field) × Run ed s q.next e ys × (any (same_key (field_of ed s p)) xs ≡ any (same_key (field_of ed s p)) ys)
         go xs [] r a = absurd (omega arith)
         go xs (y ∷ ys) r a =
-            let u : same_key (field_of ed s p) y ≡ false = rw (← r.1, ← eq, ← k) t in
-            (ys, rw eq r.2, a ∙ rw u refl)
+            let z = same_pair r.1 eq in
+            let u : same_key (field_of ed s p) y ≡ false = rw (← r.2, z, ← k) t in
+            (ys, rw z at r.3, a ∙ rw u refl)
 
-    pub left_less : (q : FieldPair) → i < e → q ≡ pair_from ed s i → (q.next ≡ 0 → ⊥) → e - q.next < e - i
-    left_less q h eq n = let m = pair_more ed s i q eq n in omega (arith, m.behind_i, m.size)
+    pub left_less : (q : FieldPair) → i < e → Ok (Some q) ≡ pair_from ed s i → e - q.next < e - i
+    left_less q h eq = let m = pair_more ed s i q eq in omega (arith, m.behind_i, m.size)
 
     pub left_end : e ≤ i → Repeats ed s e p false
     unfolding any
@@ -118,10 +113,10 @@ module _ (ed : Edition) (s : List ℕ) (e : ℕ) (p : FieldPair) where
         go : (ys : List Field) → Run ed s i e ys → any (same_key (field_of ed s p)) ys ≡ false
         go [] r = refl
         go (y ∷ ys) r =
-            let m = pair_more ed s i (pair_from ed s i) refl (λ z. omega (arith, r.0)) in
-            absurd (omega (arith, m.behind_i, m.size, run_le ed s e ys (pair_from ed s i).next r.2))
+            let m = pair_more ed s i r.0 r.1 in
+            absurd (omega (arith, m.behind_i, m.size, run_le ed s e ys r.0.next r.3))
 
-pub ruleset repeats = (left_start, left_none, left_hit, left_turn, left_less, left_end, rules)
+pub ruleset repeats = (left_start, left_refused, left_missing, left_hit, left_turn, left_less, left_end, rules)
 
 -- ---- sums_right
 module _ (ed : Edition) (s : List ℕ) (e : ℕ) (p : FieldPair) (good : Bool) where
@@ -163,11 +158,11 @@ module _ (ed : Edition) (s : List ℕ) (v t n : ℕ) where
   unfolding of_key sector_at firsts all
   looking_start = record { met = []; run = refl; sums = refl; key = refl; within = λ z. absurd (z refl) }
 
-  module _ (i : ℕ) (good : Bool) (at : ℕ) (w : Looking ed s v t n i good at) (p : FieldPair) (e : p ≡ pair_from ed s i) where
-    pub looking_turn : (g b : Bool) (a : ℕ) → (p.next ≡ 0 → ⊥) → Judges ed s i p good g → b ≡ keyed v t n p → a ≡ first_place at b p.nibbles
+  module _ (i : ℕ) (good : Bool) (at : ℕ) (w : Looking ed s v t n i good at) where
+    pub looking_turn : (p : FieldPair) (g b : Bool) (a : ℕ) → Ok (Some p) ≡ pair_from ed s i → Judges ed s i p good g → b ≡ keyed v t n p → a ≡ first_place at b p.nibbles
         → Looking ed s v t n p.next g a
-    looking_turn g b a h j k q =
-        let m = pair_more ed s i p e h in
+    looking_turn p g b a e j k q =
+        let m = pair_more ed s i p e in
         let f : Field = field_of ed s p in
         let z : p.nibbles ≡ 0 → ⊥ = λ z. omega (arith, m.behind_i) in
         let u : sector_at ed s (first_place at b p.nibbles) ≡ of_key ed v t n (w.met ++ (f ∷ [])) =
@@ -175,46 +170,47 @@ module _ (ed : Edition) (s : List ℕ) (v t n : ℕ) where
         ∙ sym (of_key_is ed v t n (w.met ++ (f ∷ []))) in
         record {
           met = w.met ++ (f ∷ []);
-          run = run_more ed s i p e h w.met 0 w.run;
+          run = run_more ed s i p e w.met 0 w.run;
           sums = j.is w.met w.run ∙ rw w.sums (sym (sums_turn ed f w.met));
           key = rw q u;
-          within = rw q (place_within ed s at p.nibbles b (pair_fits ed s i p e h) w.within);
+          within = rw q (place_within ed s at p.nibbles b (pair_fits ed s i p e) w.within);
         }
 
-    pub looking_bad : (p.refusal ≡ 0 → ⊥) → Locates ed s (sector_of ed v t n s) (record { refusal = 8; nibbles = 0 })
+    pub looking_bad : (h : Outcome ℕ) (r : Refusal) → h ≡ Err r → Err r ≡ pair_from ed s i → Locates ed s (sector_of ed v t n s) h
     unfolding sector_of
-    looking_bad h =
-        let o : sector_of ed v t n s ≡ refused AddressSum = rw (run_bad ed s i w.met w.run (pair_bad ed s i p e h).1) refl in
-        record { number_is = rw o refl; place_is = λ z. absurd (omega arith); within = λ z. absurd (omega arith) }
+    looking_bad h r q e =
+        let b = pair_refused ed s i r e in
+        let o : sector_of ed v t n s ≡ Err AddressSum = rw (run_bad ed s i w.met w.run b.1) refl in
+        rw (q, b.0) (record { is = o; within = λ a z. absurd (refused_given z) })
 
     -- the answer at the end
-    looking_is : p.refusal ≡ 0 → p.next ≡ 0 → sector_of ed v t n s ≡ cond good (sector_at ed s at) (refused DataSum)
+    looking_is : Ok None ≡ pair_from ed s i → sector_of ed v t n s ≡ cond good (sector_at ed s at) (Err DataSum)
     unfolding sector_of
-    looking_is r z =
-        rw (run_all ed s i w.met w.run (pair_end ed s i p e r z), ← w.sums, ← w.key) (go good)
+    looking_is e =
+        rw (run_all ed s i w.met w.run (pair_end ed s i e), ← w.sums, ← w.key) (go good)
       where
-        go : (b : Bool) → (require b DataSum >> sector_at ed s at) ≡ cond b (sector_at ed s at) (refused DataSum)
+        go : (b : Bool) → (require b DataSum >> sector_at ed s at) ≡ cond b (sector_at ed s at) (Err DataSum)
         go true = refl
         go false = refl
 
-    pub looking_end : (r : Located) → p.refusal ≡ 0 → p.next ≡ 0 → r ≡ verdict good at → Locates ed s (sector_of ed v t n s) r
-    looking_end r h z q = go good refl
+    pub looking_end : (r : Outcome ℕ) → Ok None ≡ pair_from ed s i → r ≡ verdict good at → Locates ed s (sector_of ed v t n s) r
+    looking_end r e q = go good refl
       where
         go : (b : Bool) → good ≡ b → Locates ed s (sector_of ed v t n s) r
         go false g =
-            let o : sector_of ed v t n s ≡ refused DataSum = looking_is h z ∙ rw g refl in
-            let y : r ≡ record { refusal = 9; nibbles = 0 } = q ∙ rw g refl in
-            rw (y, o) (record { number_is = refl; place_is = λ k. absurd (omega arith); within = λ k. absurd (omega arith) })
+            let o : sector_of ed v t n s ≡ Err DataSum = looking_is e ∙ rw g refl in
+            let y : r ≡ Err DataSum = q ∙ rw g refl in
+            rw y (record { is = o; within = λ a z. absurd (refused_given z) })
         go true g = by_test (eqb at 0)
             (λ b.
-            let o : sector_of ed v t n s ≡ refused Absent = looking_is h z ∙ rw g (sector_none ed s at b) in
-            let y : r ≡ record { refusal = 10; nibbles = 0 } = q ∙ rw (g, b) refl in
-            rw (y, o) (record { number_is = refl; place_is = λ k. absurd (omega arith); within = λ k. absurd (omega arith) }))
+            let o : sector_of ed v t n s ≡ Err Absent = looking_is e ∙ rw g (sector_none ed s at b) in
+            let y : r ≡ Err Absent = q ∙ rw (g, b) refl in
+            rw y (record { is = o; within = λ a z. absurd (refused_given z) }))
             (λ b.
-            let o : sector_of ed v t n s ≡ given (data_of ed (take (nibbles_of ed) (drop at s))) = looking_is h z ∙ rw g (sector_some ed s at b) in
-            let y : r ≡ record { refusal = 0; nibbles = at } = q ∙ rw (g, b) refl in
+            let o : sector_of ed v t n s ≡ Ok (data_of ed (take (nibbles_of ed) (drop at s))) = looking_is e ∙ rw g (sector_some ed s at b) in
+            let y : r ≡ Ok at = q ∙ rw (g, b) refl in
             let l : at + (nibbles_of ed + 3) ≤ length s = w.within (λ k. clash (sym b ∙ eq-eqb at 0 k)) in
-            rw (y, o) (record { number_is = refl; place_is = λ k. refl; within = λ k. l }))
+            rw y (record { is = o; within = λ a z. let u : at ≡ a = cc in rw (← u) l }))
 
 pub ruleset looking = (looking_start, pair_fits, looking_turn, looking_bad, looking_end, pair_less, rules)
 
@@ -246,24 +242,21 @@ module _ (ed : Edition) (s o y : List ℕ) (a n at : ℕ) (k : n ≡ nibbles_of 
 pub ruleset datas = (put_16, put_13, sum_16, sum_13, part_fits, rules)
 
 -- ---- the returns of sector_of
-module _ (ed : Edition) (s out : List ℕ) (o : Outcome (List ℕ)) (f : Located) (w : Locates ed s o f) where
-  pub sector_refused : (h : Handed) → (f.refusal ≡ 0 → ⊥) → h ≡ refused_with f.refusal → Hands o out out h
-  sector_refused = hands_number o out f.refusal w.number_is
+module _ (ed : Edition) (s out : List ℕ) (o : Outcome (List ℕ)) where
+  pub sector_refused : (h : Outcome ℕ) (r : Refusal) → h ≡ Err r → Locates ed s o (Err r) → Hands o out out h
+  sector_refused h r q w = hands_refused o out r w.is h q
 
-  module _ (z : f.refusal ≡ 0) where
-    pub sector_short : (h : Handed) → length out < 256 → h ≡ refused_with 12 → Hands o out out h
-    sector_short h l e =
-        let d : List ℕ = data_of ed (take (nibbles_of ed) (drop f.nibbles s)) in
-        hands_short o out d (w.place_is z) (rw (length_data ed (take (nibbles_of ed) (drop f.nibbles s))) l) h e
+  module _ (a : ℕ) (w : Locates ed s o (Ok a)) where
+    pub sector_short : length out < 256 → Hands o out out (Err TrayShort)
+    sector_short l = hands_short o out (data_of ed (take (nibbles_of ed) (drop a s))) w.is (rw (length_data ed (take (nibbles_of ed) (drop a s))) l) (Err TrayShort) refl
 
-    pub sector_fits : f.nibbles + (nibbles_of ed + 3) ≤ length s
-    sector_fits = w.within z
+    pub sector_fits : a + (nibbles_of ed + 3) ≤ length s
+    sector_fits = w.within a refl
 
-    pub sector_done : (h : Handed) (after : List ℕ) → 256 ≤ length out → after ≡ put 0 (data_of ed (take (nibbles_of ed) (drop f.nibbles s))) out
-        → h ≡ accepted_with 256 → Hands o out after h
-    sector_done h after room q r =
-        let b : List ℕ = data_of ed (take (nibbles_of ed) (drop f.nibbles s)) in
-        let l : length b ≡ 256 = length_data ed (take (nibbles_of ed) (drop f.nibbles s)) in
-        hands_over_lem o out after b (w.place_is z) (rw l room) (put_front (put_is q (omega arith))) h (rw l r)
+    pub sector_done : (after : List ℕ) → 256 ≤ length out → after ≡ put 0 (data_of ed (take (nibbles_of ed) (drop a s))) out → Hands o out after (Ok 256)
+    sector_done after room q =
+        let b : List ℕ = data_of ed (take (nibbles_of ed) (drop a s)) in
+        let l : length b ≡ 256 = length_data ed (take (nibbles_of ed) (drop a s)) in
+        hands_over_lem o out after b w.is (rw l room) (put_front (put_is q (omega arith))) (Ok 256) (rw l refl)
 
 pub ruleset sectored = (sector_refused, sector_short, sector_fits, sector_done, rules)

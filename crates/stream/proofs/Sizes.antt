@@ -11,11 +11,12 @@ use Rattle.lists.specs.Select.{any}
 use Rattle.lists.proofs.Laws.{length_tab, tab_all}
 use Rattle.lists.proofs.Split.{cond_both}
 use Rattle.lists.proofs.Bounds.{bytes_append}
+use Rattle.std.specs.Prelude.{Ok}
 use Rattle.outcome.specs.declared.Refusal.TheVariants.{DataSum, Stranger}
-use Rattle.outcome.specs.Outcome.{Outcome, given, ◌>>◌, require, each}
+use Rattle.outcome.specs.Outcome.{Outcome, ◌>>◌, require, each, Gives}
 use Rattle.nibble.specs.Nibble.{low, values_of, byte_from, decode}
 use Rattle.nibble.specs.FiveThree.{low_of, byte_of53, source_of, byte_from53, values_of53, decode53}
-use Rattle.outcome.proofs.Outcome.{Gives, gives_then, gives_after, gives_bind}
+use Rattle.outcome.proofs.Outcome.{gives_then, gives_after, gives_bind}
 use Rattle.nibble.proofs.FiveThree.{bits_lt}
 use Rattle.fields.specs.declared.Edition.{Edition}
 use Rattle.fields.specs.declared.Edition.TheVariants.{Sixteen, Thirteen}
@@ -73,7 +74,7 @@ field_sized : (ed : Edition) (t s : ℕ) (fs : List Field) → Gives (Sized 256)
 unfolding bytes_at
 field_sized ed t s [] = tt
 field_sized ed t s (f ∷ fs) =
-    gives_cond (Sized 256) (eqb f.track t && eqb (dos_sector ed f.sector) s) (given (data_of ed f.nibbles)) (bytes_at ed t s fs)
+    gives_cond (Sized 256) (eqb f.track t && eqb (dos_sector ed f.sector) s) (Ok (data_of ed f.nibbles)) (bytes_at ed t s fs)
     (sized_data ed f.nibbles) (field_sized ed t s fs)
 
 -- sectors joined
@@ -95,10 +96,10 @@ image_sized ed s =
     let ks : List ℕ = below (35 * per_track ed) in
     let P : List (List ℕ) → Type 0 = λ xs. Sized (256 * length ks) (flatten xs) in
     let tests : Outcome (Unit {0}) = require (not (any (is_stranger ed (first_volume fs)) fs)) Stranger >> require (sums_ok ed (firsts [] fs)) DataSum in
-    gives_bind (Sized (256 * (35 * per_track ed))) P (tests >> each f ks) (λ xs. given (flatten xs))
+    gives_bind (Sized (256 * (35 * per_track ed))) P (tests >> each f ks) (λ xs. Ok (flatten xs))
     (gives_then P tests (each f ks) (each_sized f (λ k. field_sized ed (k / per_track ed) (k % per_track ed) fs) ks))
     (λ xs h. rw (length_tab (λ k. k) (35 * per_track ed)) at h))
 
 -- for any stream
-pub sized_image : (ed : Edition) (s d : List ℕ) → image ed s ≡ given d → Sized (256 * (35 * per_track ed)) d
+pub sized_image : (ed : Edition) (s d : List ℕ) → image ed s ≡ Ok d → Sized (256 * (35 * per_track ed)) d
 sized_image ed s d e = rw e at (image_sized ed s)

@@ -2,16 +2,15 @@
 use Rattle.std.specs.Prelude.{◌≡◌, Bool, true, false, cond, not, ◌&&◌, ◌||◌, List, ℕ, ◌+◌, ◌-◌, ◌*◌, ◌<◌, ◌≤◌, ltb, eqb, length, get_or, take, drop}
 use Rattle.lists.specs.Fill.{put}
 use Rattle.lists.specs.Select.{any}
-use Rattle.outcome.specs.declared.Refusal.TheVariants.{DataSum, Absent, Stranger}
-use Rattle.outcome.specs.Refusal.{code}
-use Rattle.outcome.specs.Outcome.{Outcome, refused, given, number}
+use Rattle.std.specs.Prelude.{Ok, Err}
+use Rattle.outcome.specs.declared.Refusal.TheVariants.{DataSum, Absent}
+use Rattle.outcome.specs.Outcome.{Outcome, ◌>>=◌, ◌>>◌}
 use Rattle.fields.specs.declared.Edition.{Edition}
 use Rattle.fields.specs.declared.FieldPair.{FieldPair}
 use Rattle.fields.specs.Editions.{nibbles_of, per_track, dos_sector, data_of}
 use Rattle.fields.specs.Fields.{Field}
 use Rattle.fields.specs.Scan.{fields_from, field_of, Run}
 use Rattle.stream.specs.Stream.{same_key, sum_ok, image}
-use Rattle.stream.specs.declared.Located.{Located}
 
 -- ---- small steps
 -- the place of the first nibbles that are wanted: `at`, or those of p if p is wanted
@@ -23,8 +22,8 @@ abbrev pub keyed : ℕ → ℕ → ℕ → FieldPair → Bool
 keyed v t s p = eqb p.volume v && (eqb p.track t && eqb p.sector s)
 
 -- where the sector of a key stands: 9 where a sum is wrong, 10 for no place
-abbrev pub verdict : Bool → ℕ → Located
-verdict good at = cond good (cond (eqb at 0) (record { refusal = code Absent; nibbles = 0 }) (record { refusal = 0; nibbles = at })) (record { refusal = code DataSum; nibbles = 0 })
+abbrev pub verdict : Bool → ℕ → Outcome ℕ
+verdict good at = cond good (cond (eqb at 0) (Err Absent) (Ok at)) (Err DataSum)
 
 module _ (ed : Edition) where
   -- ---- a sector by its key
@@ -38,13 +37,12 @@ module _ (ed : Edition) where
 
   -- the bytes of the nibbles at a place; 10 for no place
   unfoldable pub sector_at : List ℕ → ℕ → Outcome (List ℕ)
-  sector_at s at = cond (eqb at 0) (refused Absent) (given (data_of ed (take (nibbles_of ed) (drop at s))))
+  sector_at s at = cond (eqb at 0) (Err Absent) (Ok (data_of ed (take (nibbles_of ed) (drop at s))))
 
   -- r says where in s the bytes that o gives stand as nibbles, or why there are none
-  pub record Locates (s : List ℕ) (o : Outcome (List ℕ)) (r : Located) : Type 0 where
-    pub number_is : r.refusal ≡ number o
-    pub place_is : r.refusal ≡ 0 → o ≡ given (data_of ed (take (nibbles_of ed) (drop r.nibbles s)))
-    pub within : r.refusal ≡ 0 → r.nibbles + (nibbles_of ed + 3) ≤ length s
+  pub record Locates (s : List ℕ) (o : Outcome (List ℕ)) (r : Outcome ℕ) : Type 0 where
+    pub is : o ≡ (r >>= λ a. Ok (data_of ed (take (nibbles_of ed) (drop a s))))
+    pub within : (a : ℕ) → r ≡ Ok a → a + (nibbles_of ed + 3) ≤ length s
 
   -- ---- denibblize
   -- p is not of volume v, or not on the disk
@@ -68,18 +66,16 @@ module _ (ed : Edition) where
     yes : r ≡ true → ((k : ℕ) → k < 35 * per_track ed → get_or at k 0 ≡ 0 → ⊥) → Complete at r
     no : r ≡ false → (k : ℕ) → k < 35 * per_track ed → get_or at k 0 ≡ 0 → Complete at r
 
-  -- the refusal at the end of the scan, 0 for none
-  pub data Decides (good : Bool) (at : List ℕ) (r : ℕ) : Type 0 where
-    sum : good ≡ false → r ≡ code DataSum → Decides good at r
-    absent : good ≡ true → r ≡ code Absent → (k : ℕ) → k < 35 * per_track ed → get_or at k 0 ≡ 0 → Decides good at r
-    all : good ≡ true → r ≡ 0 → ((k : ℕ) → k < 35 * per_track ed → get_or at k 0 ≡ 0 → ⊥) → Decides good at r
+  -- what is refused at the end of the scan
+  pub data Decides (good : Bool) (at : List ℕ) (r : Outcome (Unit {0})) : Type 0 where
+    sum : good ≡ false → r ≡ Err DataSum → Decides good at r
+    absent : good ≡ true → r ≡ Err Absent → (k : ℕ) → k < 35 * per_track ed → get_or at k 0 ≡ 0 → Decides good at r
+    all : good ≡ true → r ≡ Ok tt → ((k : ℕ) → k < 35 * per_track ed → get_or at k 0 ≡ 0 → ⊥) → Decides good at r
 
-  -- the refusal where a stranger is met and the scan would go on at place i
-  pub data Meets (s : List ℕ) (i r : ℕ) : Type 0 where
-    stranger : r ≡ code Stranger → number (fields_from ed s i) ≡ 0 → Meets s i r
-    address : r ≡ number (fields_from ed s i) → (r ≡ 0 → ⊥) → Meets s i r
+  -- whether the scan from place i on meets a wrong address sum
+  abbrev pub address_sums : List ℕ → ℕ → Outcome (Unit {0})
+  address_sums s i = fields_from ed s i >> Ok tt
 
   -- r is the refusal of the image of s; where there is none, the image is the front of d
-  pub record Collects (s d : List ℕ) (r : ℕ) : Type 0 where
-    pub number_is : r ≡ number (image ed s)
-    pub image_is : r ≡ 0 → image ed s ≡ given (take (256 * (35 * per_track ed)) d)
+  pub record Collects (s d : List ℕ) (r : Outcome (Unit {0})) : Type 0 where
+    pub is : image ed s ≡ (r >> Ok (take (256 * (35 * per_track ed)) d))

@@ -3,24 +3,16 @@
 
 ghost use Rattle.std.specs.Prelude.{◌≡◌, ◌+◌, ◌*◌, ◌≤◌, ◌<◌, length, take, drop};
 ghost use Rattle.lists.specs.Fill.{tab, put};
-ghost use Rattle.outcome.specs.Outcome.{number, Hands};
+ghost use Rattle.outcome.specs.Outcome.{Hands};
 ghost use Rattle.fields.specs.declared.Edition.TheVariants.{Sixteen, Thirteen};
 ghost use Rattle.fields.specs.Editions.{nibbles_of, per_track, interleave, dos_sector, sum_of, data_of};
-ghost use Rattle.fields.specs.Scan.{fields_from};
-ghost use Rattle.stream.specs.Steps.{keyed, first_place, verdict, Repeats, Judges, Locates, strange, number_of, sum_counts, held_in, Complete, Decides, Meets, Collects};
+ghost use Rattle.stream.specs.Steps.{keyed, first_place, verdict, Repeats, Judges, Locates, strange, number_of, sum_counts, held_in, Complete, Decides, address_sums, Collects};
 ghost use Rattle.stream.specs.Stream.{Denibblized, sector_of};
 
 use fields::{Edition, FieldPair, dos_sectors, nibbles_in, parse_nib_sector, per_track};
 use lists::copy_at;
 use nibble::{data_sum, five_three, sector_data};
-use outcome::{ABSENT, ADDRESS_SUM, DATA_SUM, Handed, STRANGER, TRAY_SHORT, accepted, refused};
-
-// Where the nibbles of a sector stand, or the number of a refusal.
-#[derive(Clone, Copy)]
-pub(crate) struct Located {
-    pub refusal: u8,
-    pub nibbles: usize,
-}
+use outcome::Refusal;
 
 // The XOR with the sum nibble of the data field whose nibbles stand at place a.
 fn sum_at(s: &[u8], a: usize, ed: Edition) -> u8
@@ -51,13 +43,7 @@ fn put_data(s: &[u8], a: usize, out: &mut [u8], at: usize, ed: Edition) -> u8
 fn has_key(p: FieldPair, volume: u8, track: u8, sector: u8) -> bool
     ensures { result ≡ keyed volume track sector p }
 {
-    if p.volume != volume {
-        return false;
-    }
-    if p.track != track {
-        return false;
-    }
-    p.sector == sector
+    p.volume == volume && (p.track == track && p.sector == sector)
 }
 
 // A pair before place e has the key of p.
@@ -66,10 +52,9 @@ fn repeated(s: &[u8], e: usize, p: FieldPair, ed: Edition) -> bool
 {
     let mut i: usize = 0;
     while i < e {
-        let q = parse_nib_sector(s, i, ed);
-        if q.next == 0 {
+        let Ok(Some(q)) = parse_nib_sector(s, i, ed) else {
             return false;
-        }
+        };
         if has_key(p, q.volume, q.track, q.sector) {
             return true;
         }
@@ -106,75 +91,67 @@ fn first_place(at: usize, wanted: bool, nibbles: usize) -> usize
 }
 
 // Where the sector of a key stands at the end of the scan.
-fn verdict_of(good: bool, at: usize) -> Located
+fn verdict_of(good: bool, at: usize) -> Result<usize, Refusal>
     ensures { result ≡ verdict good at }
 {
-    if good {
-        if at == 0 {
-            return Located {
-                refusal: ABSENT,
-                nibbles: 0,
-            };
-        }
-        return Located {
-            refusal: 0,
-            nibbles: at,
-        };
+    if !good {
+        return Err(Refusal::DataSum);
     }
-    Located {
-        refusal: DATA_SUM,
-        nibbles: 0,
+    if at == 0 {
+        return Err(Refusal::Absent);
     }
+    Ok(at)
 }
 
 // Where the sector of a key stands; refusals 8, 9, 10.
-fn locate(s: &[u8], volume: u8, track: u8, sector: u8, ed: Edition) -> Located
+fn locate(s: &[u8], volume: u8, track: u8, sector: u8, ed: Edition) -> Result<usize, Refusal>
     ensures { Locates ed s.now (sector_of ed volume track sector s.now) result }
 {
     let mut i: usize = 0;
     let mut good = true;
     let mut at: usize = 0;
-    loop {
-        let p = parse_nib_sector(s, i, ed);
-        if p.refusal != 0 {
-            return Located {
-                refusal: ADDRESS_SUM,
-                nibbles: 0,
-            };
-        }
-        if p.next == 0 {
-            return verdict_of(good, at);
-        }
+    while let Some(p) = parse_nib_sector(s, i, ed)? {
         good = sums_right(s, i, p, good, ed);
         at = first_place(at, has_key(p, volume, track, sector), p.nibbles);
         i = p.next;
     }
+    verdict_of(good, at)
 }
 
 // The 256 bytes of an address field's volume, track and sector; refusals 8, 9, 10, 12.
-fn sector_of(s: &[u8], volume: u8, track: u8, sector: u8, out: &mut [u8], ed: Edition) -> Handed
+fn sector_of(
+    s: &[u8],
+    volume: u8,
+    track: u8,
+    sector: u8,
+    out: &mut [u8],
+    ed: Edition,
+) -> Result<usize, Refusal>
     ensures { Hands (sector_of ed volume track sector s.now) out.old out.new result }
 {
-    let found = locate(s, volume, track, sector, ed);
-    if found.refusal != 0 {
-        return refused(found.refusal);
-    }
+    let at = locate(s, volume, track, sector, ed)?;
     if out.len() < 256 {
-        return refused(TRAY_SHORT);
+        return Err(Refusal::TrayShort);
     }
-    put_data(s, found.nibbles, out, 0, ed);
-    accepted(256)
+    put_data(s, at, out, 0, ed);
+    Ok(256)
 }
 
 // The same of a stream of 16 sectors a track (in the Rust parse_nib_disk, asked key by key).
-pub fn sector(s: &[u8], volume: u8, track: u8, sector: u8, out: &mut [u8]) -> Handed
+pub fn sector(s: &[u8], volume: u8, track: u8, sector: u8, out: &mut [u8]) -> Result<usize, Refusal>
     ensures { Hands (sector_of Sixteen volume track sector s.now) out.old out.new result }
 {
     sector_of(s, volume, track, sector, out, Edition::Sixteen)
 }
 
 // The same of a stream of 13.
-pub fn sector_13(s: &[u8], volume: u8, track: u8, sector: u8, out: &mut [u8]) -> Handed
+pub fn sector_13(
+    s: &[u8],
+    volume: u8,
+    track: u8,
+    sector: u8,
+    out: &mut [u8],
+) -> Result<usize, Refusal>
     ensures { Hands (sector_of Thirteen volume track sector s.now) out.old out.new result }
 {
     sector_of(s, volume, track, sector, out, Edition::Thirteen)
@@ -191,34 +168,22 @@ fn dos_sector_of(order: &[u8; 16], p: u8, ed: Edition) -> u8
     }
 }
 
-// 8 where the scan from place i on meets a wrong address sum, else 0.
-fn address_refusal(s: &[u8], i: usize, ed: Edition) -> u8
-    ensures { result ≡ number (fields_from ed s.now i) }
+// 8 where the scan from place i on meets a wrong address sum.
+fn address_refusal(s: &[u8], i: usize, ed: Edition) -> Result<(), Refusal>
+    ensures { result ≡ address_sums ed s.now i }
 {
     let mut k = i;
-    loop {
-        let p = parse_nib_sector(s, k, ed);
-        if p.refusal != 0 {
-            return ADDRESS_SUM;
-        }
-        if p.next == 0 {
-            return 0;
-        }
+    while let Some(p) = parse_nib_sector(s, k, ed)? {
         k = p.next;
     }
+    Ok(())
 }
 
 // The pair is of another volume, or not on the disk.
 fn is_stranger(p: FieldPair, volume: u8, ed: Edition) -> bool
     ensures { result ≡ strange ed volume p }
 {
-    if p.volume != volume {
-        return true;
-    }
-    if 34 < p.track {
-        return true;
-    }
-    per_track(ed) - 1 < p.sector
+    p.volume != volume || (34 < p.track || per_track(ed) - 1 < p.sector)
 }
 
 // The product of two bytes.
@@ -266,60 +231,43 @@ fn complete(at: &[usize; 560], ed: Edition) -> bool
     ensures { Complete ed at.now result }
 {
     let n = 35 * (per_track(ed) as usize);
-    let mut k: usize = 0;
-    while k < n {
+    for k in 0..n {
         if at[k] == 0 {
             return false;
         }
-        k += 1;
     }
     true
 }
 
-// The refusal at the end of the scan: 9, 10, or 0 for none.
-fn number_of(good: bool, at: &[usize; 560], ed: Edition) -> u8
+// What is refused at the end of the scan: 9, 10.
+fn end_refusal(good: bool, at: &[usize; 560], ed: Edition) -> Result<(), Refusal>
     ensures { Decides ed good at.now result }
 {
-    if good {
-        if complete(at, ed) {
-            return 0;
-        }
-        return ABSENT;
+    if !good {
+        return Err(Refusal::DataSum);
     }
-    DATA_SUM
+    if complete(at, ed) {
+        return Ok(());
+    }
+    Err(Refusal::Absent)
 }
 
-// The refusal where a stranger is met: an address sum further on comes before it.
-fn stranger_met(s: &[u8], i: usize, ed: Edition) -> u8
-    ensures { Meets ed s.now i result }
-{
-    let number = address_refusal(s, i, ed);
-    if number == 0 {
-        return STRANGER;
-    }
-    number
-}
-
-// Decodes the first field of each sector into disk; the refusal 8, 11, 9 or 10, or 0 for none. `at` has for each DOS sector the place of its nibbles, 0 for none yet.
-fn collect(s: &[u8], disk: &mut [u8], ed: Edition) -> u8
+// Decodes the first field of each sector into disk; refusals 8, 11, 9, 10. An address sum behind a stranger comes before it. `at` has for each DOS sector the place of its nibbles, 0 for none yet.
+fn collect(s: &[u8], disk: &mut [u8], ed: Edition) -> Result<(), Refusal>
     requires { 256 * (35 * per_track ed) ≤ length disk.old }
     ensures { Collects ed s.now disk.new result }
 {
-    let first = parse_nib_sector(s, 0, ed);
+    let Some(first) = parse_nib_sector(s, 0, ed)? else {
+        return Err(Refusal::Absent);
+    };
     let order = dos_sectors();
     let mut i: usize = 0;
     let mut good = true;
     let mut at = [0usize; 560];
-    loop {
-        let p = parse_nib_sector(s, i, ed);
-        if p.refusal != 0 {
-            return ADDRESS_SUM;
-        }
-        if p.next == 0 {
-            return number_of(good, &at, ed);
-        }
+    while let Some(p) = parse_nib_sector(s, i, ed)? {
         if is_stranger(p, first.volume, ed) {
-            return stranger_met(s, p.next, ed);
+            address_refusal(s, p.next, ed)?;
+            return Err(Refusal::Stranger);
         }
         let k = sector_number(&order, p, ed);
         let old = at[k];
@@ -327,6 +275,7 @@ fn collect(s: &[u8], disk: &mut [u8], ed: Edition) -> u8
         at[k] = first_place(old, true, p.nibbles);
         i = p.next;
     }
+    end_refusal(good, &at, ed)
 }
 
 // Room for a flat disk of either edition.
@@ -335,31 +284,28 @@ fn space() -> [u8; 143360] {
 }
 
 // The flat disk that a stream holds (not in the Rust); refusals 8, 11, 9, 10, 12. The sectors are decoded in one pass, into space of its own (143,360 bytes of the stack), and copied to out when nothing is refused any more.
-fn denibblize_of(s: &[u8], out: &mut [u8], ed: Edition) -> Handed
+fn denibblize_of(s: &[u8], out: &mut [u8], ed: Edition) -> Result<usize, Refusal>
     ensures { Denibblized ed s.now out.old out.new result }
 {
     let mut disk = space();
-    let number = collect(s, &mut disk, ed);
-    if number != 0 {
-        return refused(number);
-    }
+    collect(s, &mut disk, ed)?;
     let size = 256 * (35 * (per_track(ed) as usize));
     if out.len() < size {
-        return refused(TRAY_SHORT);
+        return Err(Refusal::TrayShort);
     }
     copy_at(&disk[0..size], out, 0);
-    accepted(size)
+    Ok(size)
 }
 
 // That of a stream of 16 sectors a track: 143,360 bytes.
-pub fn denibblize(s: &[u8], out: &mut [u8]) -> Handed
+pub fn denibblize(s: &[u8], out: &mut [u8]) -> Result<usize, Refusal>
     ensures { Denibblized Sixteen s.now out.old out.new result }
 {
     denibblize_of(s, out, Edition::Sixteen)
 }
 
 // That of a stream of 13: 116,480 bytes.
-pub fn denibblize_13(s: &[u8], out: &mut [u8]) -> Handed
+pub fn denibblize_13(s: &[u8], out: &mut [u8]) -> Result<usize, Refusal>
     ensures { Denibblized Thirteen s.now out.old out.new result }
 {
     denibblize_of(s, out, Edition::Thirteen)

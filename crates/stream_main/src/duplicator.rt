@@ -30,11 +30,9 @@ fn gap_byte(lot: u64) -> u8 {
 // Fills a gap: the lot behind it.
 fn draw_gap(gap: &mut [u8], lot: u64) -> u64 {
     let mut x = lot;
-    let mut i: usize = 0;
-    while i < gap.len() {
+    for b in gap.iter_mut() {
         x = next(x);
-        gap[i] = gap_byte(x);
-        i += 1;
+        *b = gap_byte(x);
     }
     x
 }
@@ -75,10 +73,8 @@ fn add_writing(from: &[u8], nibbles: &mut [u8], k: u16, laid: Laid, most: u8) ->
 
 fn add_writings(from: &[u8], nibbles: &mut [u8], order: &[u16], lot: u64, most: u8) -> Laid {
     let mut laid = Laid { used: 0, lot: lot };
-    let mut i: usize = 0;
-    while i < order.len() {
-        laid = add_writing(from, nibbles, order[i], laid, most);
-        i += 1;
+    for k in order {
+        laid = add_writing(from, nibbles, *k, laid, most);
     }
     laid
 }
@@ -93,11 +89,9 @@ fn number_at(i: usize, lot: u64) -> u16 {
 
 fn draw_numbers(order: &mut [u16], lot: u64) -> u64 {
     let mut x = lot;
-    let mut i: usize = 0;
-    while i < order.len() {
+    for i in 0..order.len() {
         x = next(x);
         order[i] = number_at(i, x);
-        i += 1;
     }
     x
 }
@@ -105,14 +99,9 @@ fn draw_numbers(order: &mut [u16], lot: u64) -> u64 {
 // From the last place on, each changes with one that is drawn from those up to it.
 fn shuffle(order: &mut [u16], lot: u64) -> u64 {
     let mut x = lot;
-    let mut i = order.len();
-    while 1 < i {
+    for i in (1..order.len()).rev() {
         x = next(x);
-        let j = (x / 65536) as usize % i;
-        i -= 1;
-        let last = order[i];
-        order[i] = order[j];
-        order[j] = last;
+        order.swap(i, (x / 65536) as usize % (i + 1));
     }
     x
 }

@@ -13,13 +13,13 @@ mod duplicator;
 
 ghost use Rattle.std.specs.Prelude.{◌<◌};
 
-use fields::Edition;
+use fields::{Edition, FieldPair};
 use laying::disk_of;
 use lists::{copy_at, part};
-use outcome::Handed;
+use outcome::Refusal;
 use trial::{
-    bytes_line, handed_line, number, place, print, print_line, print_number, refusal_line, sum_of,
-    untouched,
+    bytes_line, filled, handed_line, length_of, number, place, print, print_line, print_number,
+    shown, sum_of, untouched,
 };
 
 fn left_line(disk: &[u8], space: &[u8], length: usize) {
@@ -38,19 +38,27 @@ fn left_line(disk: &[u8], space: &[u8], length: usize) {
     print_line(b"  it is another disk, sum", sum_of(part(space, 0, length)));
 }
 
-fn unrolled(nibbles: &[u8], edition: u8, space: &mut [u8]) -> Handed {
+// The edition that a step names: 13 sectors a track, else 16.
+fn edition_of(edition: u8) -> Edition {
     if edition == 13 {
-        return stream::denibblize_13(nibbles, space);
+        return Edition::Thirteen;
     }
-    stream::denibblize(nibbles, space)
+    Edition::Sixteen
+}
+
+fn unrolled(nibbles: &[u8], edition: u8, space: &mut [u8]) -> Result<usize, Refusal> {
+    match edition_of(edition) {
+        Edition::Sixteen => stream::denibblize(nibbles, space),
+        Edition::Thirteen => stream::denibblize_13(nibbles, space),
+    }
 }
 
 // What denibblize answers with this space, and what it leaves there.
 fn image_in(disk: &[u8], nibbles: &[u8], edition: u8, space: &mut [u8]) {
-    let h = unrolled(nibbles, edition, space);
+    let answer = unrolled(nibbles, edition, space);
     print_number(b"denibblize", edition as u64);
-    handed_line(b": refusal", h);
-    left_line(disk, space, h.length);
+    handed_line(b": refusal", answer);
+    left_line(disk, space, length_of(answer));
 }
 
 fn show_image(disk: &[u8], nibbles: &[u8], edition: u8, less: usize) {
@@ -61,32 +69,41 @@ fn show_image(disk: &[u8], nibbles: &[u8], edition: u8, less: usize) {
     }
 }
 
-fn fetched(nibbles: &[u8], edition: u8, v: u8, t: u8, s: u8, space: &mut [u8]) -> Handed {
-    if edition == 13 {
-        return stream::sector_13(nibbles, v, t, s, space);
+fn fetched(
+    nibbles: &[u8],
+    edition: u8,
+    v: u8,
+    t: u8,
+    s: u8,
+    space: &mut [u8],
+) -> Result<usize, Refusal> {
+    match edition_of(edition) {
+        Edition::Sixteen => stream::sector(nibbles, v, t, s, space),
+        Edition::Thirteen => stream::sector_13(nibbles, v, t, s, space),
     }
-    stream::sector(nibbles, v, t, s, space)
 }
 
 fn show_sector(nibbles: &[u8], edition: u8, v: u8, t: u8, s: u8) {
     let mut data = [0u8; 256];
-    let h = fetched(nibbles, edition, v, t, s, &mut data);
+    let answer = fetched(nibbles, edition, v, t, s, &mut data);
     print_number(b"sector", edition as u64);
-    handed_line(b": refusal", h);
-    bytes_line(h, &data);
+    handed_line(b": refusal", answer);
+    bytes_line(answer, &data);
 }
 
-fn edition_of(edition: u8) -> Edition {
-    if edition == 13 {
-        return Edition::Thirteen;
-    }
-    Edition::Sixteen
-}
+// What is shown where there is no pair.
+const NO_PAIR: FieldPair = FieldPair {
+    volume: 0,
+    track: 0,
+    sector: 0,
+    nibbles: 0,
+    next: 0,
+};
 
 fn show_pair(nibbles: &[u8], edition: u8, at: usize) {
-    let p = fields::parse_nib_sector(nibbles, at, edition_of(edition));
+    let answer = fields::parse_nib_sector(nibbles, at, edition_of(edition));
     print_number(b"pair", edition as u64);
-    refusal_line(b": refusal", p.refusal);
+    let p = shown(b": refusal", answer, None).unwrap_or(NO_PAIR);
     print_number(b"  volume", p.volume as u64);
     print_number(b", track", p.track as u64);
     print_line(b", sector", p.sector as u64);
@@ -98,24 +115,19 @@ fn show_prologue(nibbles: &[u8]) {
     print_line(b"prologue", fields::recognize_prologue(nibbles) as u64);
 }
 
-// Space for a disk as nibbles, each byte 55h. What it holds is not promised, so that lending it costs no proof.
-fn space() -> [u8; 232960] {
-    [0x55; 232960]
-}
-
 // How many bytes the stream has afterwards.
 fn write_stream(disk: &[u8], nibbles: &mut [u8], used: usize) -> usize {
-    let mut out = space();
-    let h = nibblize::nibblize(disk, &mut out);
-    handed_line(b"nibblize: refusal", h);
+    let mut out: [u8; 232960] = filled(0x55);
+    let answer = nibblize::nibblize(disk, &mut out);
+    handed_line(b"nibblize: refusal", answer);
     if untouched(&out) {
         print(b"  nothing changed\n");
     }
-    if h.refusal != 0 {
+    let Ok(length) = answer else {
         return used;
-    }
-    copy_at(part(&out, 0, h.length), nibbles, 0);
-    h.length
+    };
+    copy_at(part(&out, 0, length), nibbles, 0);
+    length
 }
 
 fn copy_block(nibbles: &mut [u8], from: usize, to: usize)
@@ -175,26 +187,9 @@ fn act(disks: &mut [u8], nibbles: &mut [u8], used: usize, step: [u8; 6]) -> usiz
     used
 }
 
-fn run(disks: &mut [u8], nibbles: &mut [u8]) {
-    let mut used: usize = 0;
-    let mut left: u32 = 100000;
-    while left > 0 {
-        let s = trial::next_step();
-        if !s.more {
-            return;
-        }
-        let step = s.bytes;
-        used = act(disks, nibbles, used, step);
-        left -= 1;
-    }
-}
-
-fn nibbles() -> [u8; 1048576] {
-    [0; 1048576]
-}
-
 fn main() {
     let mut disks = laying::disks();
-    let mut stream = nibbles();
-    run(&mut disks, &mut stream);
+    let mut stream: [u8; 1048576] = filled(0);
+    let mut used: usize = 0;
+    trial::run_script(|step| used = act(&mut disks, &mut stream, used, step));
 }

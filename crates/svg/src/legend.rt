@@ -1,173 +1,126 @@
 // What explains the picture: the key of its marks, and the files with their colours.
-use cells::{FREE, LOOSE, LOST, SHARED, count};
+ghost use Rattle.std.specs.Prelude.{◌<◌};
+
+use cells::{Drawing, Kind};
 use lists::{byte_at, part, word_at};
 use pen::colours::light;
-use pen::{add, form, shown};
-use uses::{DATA, LIST, PAGE, VTOC, name_of};
+use pen::shown;
+use screen::kind_letters;
+use std::alloc::AllocError;
+use uses::name_of;
 
 // The files that are shown.
 pub const MOST: u32 = 120;
 
+// The columns of a name.
+const NAME_COLUMNS: usize = 30;
+
 // How many rows they take, in three columns.
 pub fn rows_of(files: u32) -> u32 {
-    if files < MOST {
-        return (files + 2) / 3;
-    }
-    MOST / 3
+    files.min(MOST).div_ceil(3)
 }
 
 // The squares of the key, and how many sectors of each there are.
-pub fn key(disk: &[u8], per: u8, uses: &[u32], out: &mut [u8], at: usize) -> usize {
-    let y = 124 + 30 * (per as u32);
-    let n = form(
+pub fn key(out: &mut String, d: Drawing) -> Result<(), AllocError> {
+    let y = 124 + 30 * u32::from(d.per);
+    let vtoc = d.count(Kind::Vtoc);
+    let pages = d.count(Kind::Pages);
+    let lists = d.count(Kind::Lists);
+    let data = d.count(Kind::Data);
+    write!(
         out,
-        at,
-        b"<g transform=\"translate(58 %)\">
-<rect x=\"1\" y=\"1\" width=\"27\" height=\"27\" class=\"v\"/><text x=\"14.5\" y=\"19\" class=\"w\">V</text><text x=\"38\" y=\"19\">VTOC: %</text>
-<rect x=\"1\" y=\"37\" width=\"27\" height=\"27\" class=\"k\"/><text x=\"14.5\" y=\"55\" class=\"p\">C</text><text x=\"38\" y=\"55\">catalog pages: %</text>
-<rect x=\"203\" y=\"1\" width=\"27\" height=\"27\" class=\"g\" fill=\"#e4e4e4\" stroke=\"#444\"/><text x=\"216.5\" y=\"19\" class=\"l\">L1</text><text x=\"240\" y=\"19\">track/sector lists: %</text>
-<rect x=\"203\" y=\"37\" width=\"27\" height=\"27\" class=\"j\" fill=\"#e4e4e4\" stroke=\"#e4e4e4\"/><text x=\"216.5\" y=\"55\" class=\"b\">1</text><text x=\"240\" y=\"55\">data of files: %</text>
-",
-        &[
-            y,
-            count(disk, per, uses, VTOC),
-            count(disk, per, uses, PAGE),
-            count(disk, per, uses, LIST),
-            count(disk, per, uses, DATA),
-        ],
-    );
-    marks_key(disk, per, uses, out, n)
+        "<g transform=\"translate(58 {y})\">
+<rect x=\"1\" y=\"1\" width=\"27\" height=\"27\" class=\"v\"/><text x=\"14.5\" y=\"19\" class=\"w\">V</text><text x=\"38\" y=\"19\">VTOC: {vtoc}</text>
+<rect x=\"1\" y=\"37\" width=\"27\" height=\"27\" class=\"k\"/><text x=\"14.5\" y=\"55\" class=\"p\">C</text><text x=\"38\" y=\"55\">catalog pages: {pages}</text>
+<rect x=\"203\" y=\"1\" width=\"27\" height=\"27\" class=\"g\" fill=\"#e4e4e4\" stroke=\"#444\"/><text x=\"216.5\" y=\"19\" class=\"l\">L1</text><text x=\"240\" y=\"19\">track/sector lists: {lists}</text>
+<rect x=\"203\" y=\"37\" width=\"27\" height=\"27\" class=\"j\" fill=\"#e4e4e4\" stroke=\"#e4e4e4\"/><text x=\"216.5\" y=\"55\" class=\"b\">1</text><text x=\"240\" y=\"55\">data of files: {data}</text>
+"
+    )?;
+    marks_key(out, d)
 }
 
-fn marks_key(disk: &[u8], per: u8, uses: &[u32], out: &mut [u8], n: usize) -> usize {
-    form(
+fn marks_key(out: &mut String, d: Drawing) -> Result<(), AllocError> {
+    let free = d.count(Kind::Free);
+    let lost = d.count(Kind::Lost);
+    let shared = d.count(Kind::Shared);
+    let loose = d.count(Kind::Loose);
+    write!(
         out,
-        n,
-        b"<rect x=\"442.5\" y=\".5\" width=\"28\" height=\"28\" fill=\"#fff\" stroke=\"#d0d0d0\"/><text x=\"480\" y=\"19\">free: %</text>
-<rect x=\"443\" y=\"37\" width=\"27\" height=\"27\" class=\"u\"/><text x=\"480\" y=\"55\">used in the map, in no chain: %</text>
-<rect x=\"772.5\" y=\".5\" width=\"28\" height=\"28\" fill=\"#fff\" stroke=\"#d0d0d0\"/><path d=\"M774 2l25 25m-25 0l25-25\" class=\"x\"/><text x=\"810\" y=\"19\">shared: %</text>
-<rect x=\"773\" y=\"37\" width=\"27\" height=\"27\" class=\"d\"/><text x=\"810\" y=\"55\">in a chain, free in the map: %</text>
+        "<rect x=\"442.5\" y=\".5\" width=\"28\" height=\"28\" fill=\"#fff\" stroke=\"#d0d0d0\"/><text x=\"480\" y=\"19\">free: {free}</text>
+<rect x=\"443\" y=\"37\" width=\"27\" height=\"27\" class=\"u\"/><text x=\"480\" y=\"55\">used in the map, in no chain: {lost}</text>
+<rect x=\"772.5\" y=\".5\" width=\"28\" height=\"28\" fill=\"#fff\" stroke=\"#d0d0d0\"/><path d=\"M774 2l25 25m-25 0l25-25\" class=\"x\"/><text x=\"810\" y=\"19\">shared: {shared}</text>
+<rect x=\"773\" y=\"37\" width=\"27\" height=\"27\" class=\"d\"/><text x=\"810\" y=\"55\">in a chain, free in the map: {loose}</text>
 </g>
-",
-        &[
-            count(disk, per, uses, FREE),
-            count(disk, per, uses, LOST),
-            count(disk, per, uses, SHARED),
-            count(disk, per, uses, LOOSE),
-        ],
+"
     )
 }
 
-// Where the letters of a type stand.
-fn kind_place(kind: u8) -> usize {
-    match kind {
-        0 => 0,
-        1 => 2,
-        2 => 4,
-        4 => 6,
-        8 => 8,
-        10 => 10,
-        20 => 12,
-        40 => 14,
-        _ => 16,
+// A file: its number in its colour, then its lock, type, sectors and name. Files count from 1 here.
+fn file_line(out: &mut String, d: Drawing, file: u32, left: u32, top: u32) -> Result<(), AllocError>
+    requires left_small { left < 65536 }
+    requires top_small { top < 65536 }
+    requires file_some { 0 < file }
+{
+    let entry = part(d.entries, 37 * (file - 1) as usize, 37);
+    let base = top + 13;
+    let colour = light(file);
+    write!(
+        out,
+        "<rect x=\"{left}\" y=\"{top}\" width=\"29\" height=\"17\" fill=\"{colour}\"/>"
+    )?;
+    let middle = left + 14;
+    write!(
+        out,
+        "<text x=\"{middle}.5\" y=\"{base}\" class=\"m t\">{file}</text>"
+    )?;
+    if byte_at(entry, 3) != 0 {
+        let x = left + 36;
+        write!(out, "<text x=\"{x}\" y=\"{base}\" class=\"t\">*</text>")?;
     }
-}
-
-// The star of a locked file.
-fn lock(out: &mut [u8], n: usize, x: u32, y: u32, locked: u8) -> usize {
-    if locked == 0 {
-        return n;
-    }
-    form(
+    let x = left + 50;
+    let kind = kind_letters(byte_at(entry, 2));
+    write!(
         out,
-        n,
-        b"<text x=\"%\" y=\"%\" class=\"t\">*</text>",
-        &[x, y],
-    )
-}
-
-// The letters of a type.
-fn kind(out: &mut [u8], n: usize, x: u32, y: u32, code: u8) -> usize {
-    let m = form(out, n, b"<text x=\"%\" y=\"%\" class=\"t\">", &[x, y]);
-    add(out, m, part(b"T I A B S R ATBTU ", kind_place(code), 2))
-}
-
-// Its sectors and its name.
-fn count_and_name(out: &mut [u8], n: usize, x: u32, y: u32, count: u16, name: &[u8]) -> usize {
-    let a = form(
+        "<text x=\"{x}\" y=\"{base}\" class=\"t\">{kind:<2}</text>"
+    )?;
+    let x = left + 106;
+    let sectors = word_at(entry, 35);
+    write!(
         out,
-        n,
-        b"</text><text x=\"%\" y=\"%\" class=\"r t\">%</text><text x=\"%\" y=\"%\" class=\"t\">",
-        &[x % 8192 + 106, y, count as u32, x % 8192 + 116, y],
-    );
-    let b = shown(out, a, name, 30);
-    add(out, b, b"</text>\n")
+        "<text x=\"{x}\" y=\"{base}\" class=\"r t\">{sectors}</text>"
+    )?;
+    let x = left + 116;
+    write!(out, "<text x=\"{x}\" y=\"{base}\" class=\"t\">")?;
+    shown(out, d.alloc, name_of(d.entries, file), NAME_COLUMNS)?;
+    out.push_str("</text>\n")
 }
 
-// A file: its number in its colour, then its lock, type, sectors and name. Files count from 0 here.
-fn file_line(out: &mut [u8], n: usize, entries: &[u8], file: u32, x: u32, y: u32) -> usize {
-    let e = part(entries, 37 * ((file % 65536) as usize), 37);
-    let number = file % 65536 + 1;
-    let left = x % 8192;
-    let base = y % 8192 + 13;
-    let a = form(
-        out,
-        n,
-        b"<rect x=\"%\" y=\"%\" width=\"29\" height=\"17\" fill=\"#$\"/><text x=\"%.5\" y=\"%\" class=\"m t\">%</text>",
-        &[left, base - 13, light(number), left + 14, base, number],
-    );
-    let b = lock(out, a, left + 36, base, byte_at(e, 3));
-    let c = kind(out, b, left + 50, base, byte_at(e, 2));
-    count_and_name(out, c, left, base, word_at(e, 35), name_of(entries, number))
-}
-
-fn file_lines(out: &mut [u8], at: usize, entries: &[u8], files: u32) -> usize {
+fn file_lines(out: &mut String, d: Drawing, files: u32) -> Result<(), AllocError> {
     let rows = rows_of(files);
-    let mut n = at;
     if rows == 0 {
-        return n;
+        return Ok(());
     }
-    for k in 0..MOST {
-        if files <= k {
-            return n;
-        }
-        n = file_line(
-            out,
-            n,
-            entries,
-            k,
-            352 * (k / rows % 4),
-            12 + 20 * (k % rows % 64),
-        );
+    for k in 0..files.min(MOST) {
+        file_line(out, d, k + 1, 352 * (k / rows), 12 + 20 * (k % rows))?;
     }
-    n
+    Ok(())
 }
 
-// How many more there are than are shown.
-fn more_files(out: &mut [u8], n: usize, files: u32) -> usize {
-    if files <= MOST {
-        return n;
-    }
-    form(
-        out,
-        n,
-        b"<text y=\"%\">and % more</text>\n",
-        &[32 + 20 * (MOST / 3), files - MOST],
-    )
-}
-
-// The files, under the key.
-pub fn file_key(out: &mut [u8], n: usize, per: u8, entries: &[u8], files: u32) -> usize {
+// The files, under the key; and how many more there are than are shown.
+pub fn file_key(out: &mut String, d: Drawing, files: u32) -> Result<(), AllocError> {
     if files == 0 {
-        return n;
+        return Ok(());
     }
-    let a = form(
+    let y = 222 + 30 * u32::from(d.per);
+    write!(
         out,
-        n,
-        b"<g transform=\"translate(58 %)\">\n<text class=\"q\">Files in catalog order: number, lock (*), type, sectors stated, name</text>\n",
-        &[222 + 30 * (per as u32)],
-    );
-    let b = file_lines(out, a, entries, files);
-    let c = more_files(out, b, files);
-    add(out, c, b"</g>\n")
+        "<g transform=\"translate(58 {y})\">\n<text class=\"q\">Files in catalog order: number, lock (*), type, sectors stated, name</text>\n"
+    )?;
+    file_lines(out, d, files)?;
+    if MOST < files {
+        let y = 32 + 20 * (MOST / 3);
+        let more = files - MOST;
+        write!(out, "<text y=\"{y}\">and {more} more</text>\n")?;
+    }
+    out.push_str("</g>\n")
 }

@@ -1,180 +1,164 @@
 // A disk as an SVG picture: 35 tracks across, their sectors down, the files in their colours, the links followed as arrows, and what the map says of them. It
 // stands alone: no script, and nothing from elsewhere.
-// A sector takes 504 bytes at most, with 180 for a name; an arrow 67, and there are at most 5,041; a file of the legend 457, and 120 are shown; a path of 4,096 bytes
-// 25,100; all else 8,000. So the whole has less than 800,000 bytes.
 #![tactic(auto)]
 
 mod legend;
 
-use cells::{CELLS, LETTERS, MARKS, columns};
+use arrows::draw_arrows;
+use cells::{Drawing, Layer, TRACKS};
 use disk::sectors_of;
 use files::DiskSurvey;
-use legend::{MOST, rows_of};
-use pen::{add, form, shown, shown_end};
-
-// Space for the catalog: 37 bytes an entry, 560 pages of 7.
-fn space() -> [u8; 145040] {
-    [0; 145040]
-}
+use legend::{MOST, file_key, key, rows_of};
+use pen::{shown, shown_end};
+use screen::space::catalog_space;
+use std::alloc::{AllocError, Global};
+use uses::uses_of;
 
 // How high the picture is.
 fn height(per: u8, files: u32) -> u32 {
-    let top = 30 * (per as u32);
+    let sectors = 30 * u32::from(per);
     if files == 0 {
-        return top + 206;
+        return sectors + 206;
     }
     let rows = rows_of(files) % 64;
     if MOST < files {
-        return top + 20 * rows + 270;
+        return sectors + 20 * rows + 270;
     }
-    top + 20 * rows + 246
+    sectors + 20 * rows + 246
 }
 
-// The path: the whole in the title, its end in the heading.
-fn path(out: &mut [u8], n: usize, from: &[u8], whole: bool) -> usize {
-    if from.len() == 0 {
-        return add(out, n, b"''");
+// The words for the path where it has no letters of its own.
+fn path_words(from: &[u8]) -> Option<&'static str> {
+    match from {
+        b"" => Some("''"),
+        b"-" => Some("standard input"),
+        _ => None,
     }
-    if lists::same(from, b"-") {
-        return add(out, n, b"standard input");
-    }
-    if whole {
-        return shown(out, n, from, 1000000);
-    }
-    shown_end(out, n, from)
 }
 
-fn front(out: &mut [u8], at: usize, from: &[u8], high: u32) -> usize {
-    let mut n = form(
+// The whole path.
+fn path(out: &mut String, alloc: Global, from: &[u8]) -> Result<(), AllocError> {
+    match path_words(from) {
+        Some(words) => out.push_str(words),
+        None => shown(out, alloc, from, 1000000),
+    }
+}
+
+// Its end.
+fn path_end(out: &mut String, alloc: Global, from: &[u8]) -> Result<(), AllocError> {
+    match path_words(from) {
+        Some(words) => out.push_str(words),
+        None => shown_end(out, alloc, from),
+    }
+}
+
+// The front of the picture, with the path in the title and its end in the heading.
+fn front(out: &mut String, alloc: Global, from: &[u8], high: u32) -> Result<(), AllocError> {
+    write!(
         out,
-        at,
-        b"<svg xmlns=\"http://www.w3.org/2000/svg\" viewBox=\"0 0 1130 %\" role=\"img\" aria-labelledby=\"t\">\n<title id=\"t\">Sectors of ",
-        &[high],
-    );
-    n = path(out, n, from, true);
-    n = add(
+        "<svg xmlns=\"http://www.w3.org/2000/svg\" viewBox=\"0 0 1130 {high}\" role=\"img\" aria-labelledby=\"t\">\n<title id=\"t\">Sectors of "
+    )?;
+    path(out, alloc, from)?;
+    out.push_str(
+        "</title>\n<style>\nsvg{background:#fff}\ntext{font:13px ui-monospace,Menlo,Consolas,\"DejaVu Sans Mono\",monospace;fill:#222}\n.h{font-size:20px;font-weight:bold}\n.t,.l{font-size:12px}\n.s{font-size:9.5px}\n.m,.b,.l,.p,.s,.w{text-anchor:middle}\n.b,.l,.p,.s,.w{font-weight:bold;paint-order:stroke;stroke-width:2px;stroke-linejoin:round}\n.w{fill:#fff}\n.r{text-anchor:end}\n.q{fill:#666}\n.n{pointer-events:none}\n.o,.u,.v,.j{stroke-width:2px}\n.o{fill:#fff;stroke:#fff}\n.u{fill:#b4b4b4;stroke:#b4b4b4}\n.v{fill:#1f3566;stroke:#1f3566}\n.k,.g{stroke-width:2.5px}\n.k{fill:#d5def2;stroke:#1f3566}\n.p{stroke:#d5def2}\n.x{stroke:#d00000;stroke-width:1.8px;fill:none}\n.d{fill:none;stroke:#d00000;stroke-width:2.4px;stroke-dasharray:4 3}\n.c,.e{fill:none;stroke-width:1.4px;marker-end:url(#a)}\n.c{stroke-width:1.8px}\n</style>\n<defs><marker id=\"a\" viewBox=\"0 0 8 8\" refX=\"7\" refY=\"4\" markerWidth=\"8\" markerHeight=\"8\" markerUnits=\"userSpaceOnUse\" orient=\"auto\"><path d=\"M0 .5l8 3.5l-8 3.5z\" fill=\"context-stroke\"/></marker></defs>\n",
+    )?;
+    write!(
         out,
-        n,
-        b"</title>\n<style>\nsvg{background:#fff}\ntext{font:13px ui-monospace,Menlo,Consolas,\"DejaVu Sans Mono\",monospace;fill:#222}\n.h{font-size:20px;font-weight:bold}\n.t,.l{font-size:12px}\n.s{font-size:9.5px}\n.m,.b,.l,.p,.s,.w{text-anchor:middle}\n.b,.l,.p,.s,.w{font-weight:bold;paint-order:stroke;stroke-width:2px;stroke-linejoin:round}\n.w{fill:#fff}\n.r{text-anchor:end}\n.q{fill:#666}\n.n{pointer-events:none}\n.o,.u,.v,.j{stroke-width:2px}\n.o{fill:#fff;stroke:#fff}\n.u{fill:#b4b4b4;stroke:#b4b4b4}\n.v{fill:#1f3566;stroke:#1f3566}\n.k,.g{stroke-width:2.5px}\n.k{fill:#d5def2;stroke:#1f3566}\n.p{stroke:#d5def2}\n.x{stroke:#d00000;stroke-width:1.8px;fill:none}\n.d{fill:none;stroke:#d00000;stroke-width:2.4px;stroke-dasharray:4 3}\n.c,.e{fill:none;stroke-width:1.4px;marker-end:url(#a)}\n.c{stroke-width:1.8px}\n</style>\n<defs><marker id=\"a\" viewBox=\"0 0 8 8\" refX=\"7\" refY=\"4\" markerWidth=\"8\" markerHeight=\"8\" markerUnits=\"userSpaceOnUse\" orient=\"auto\"><path d=\"M0 .5l8 3.5l-8 3.5z\" fill=\"context-stroke\"/></marker></defs>\n",
-    );
-    form(
-        out,
-        n,
-        b"<rect width=\"1130\" height=\"%\" fill=\"#fff\"/>\n<text x=\"58\" y=\"36\" class=\"h\">",
-        &[high],
-    )
+        "<rect width=\"1130\" height=\"{high}\" fill=\"#fff\"/>\n<text x=\"58\" y=\"36\" class=\"h\">"
+    )?;
+    path_end(out, alloc, from)
 }
 
 // What makes more than one of it.
-fn plural(out: &mut [u8], n: usize, count: u32) -> usize {
-    if count == 1 {
-        return n;
-    }
-    add(out, n, b"s")
+fn plural(n: u64) -> &'static str {
+    if n == 1 { "" } else { "s" }
 }
 
 // The line under the path.
-fn second_line(out: &mut [u8], at: usize, per: u8, s: DiskSurvey) -> usize {
-    let links = (s.links % 1000000000) as u32;
-    let mut n = form(
+fn second_line(out: &mut String, per: u8, s: DiskSurvey) -> Result<(), AllocError> {
+    let volume = s.volume;
+    let entries = s.entries;
+    let links = s.links;
+    write!(
         out,
-        at,
-        b"</text>\n<text x=\"58\" y=\"60\">volume %, % sectors a track, % file",
-        &[s.volume as u32, per as u32, s.entries],
-    );
-    n = plural(out, n, s.entries);
-    n = form(out, n, b", % link", &[links]);
-    n = plural(out, n, links);
-    add(out, n, b" followed</text>\n")
+        "</text>\n<text x=\"58\" y=\"60\">volume {volume}, {per} sectors a track, {entries} file"
+    )?;
+    out.push_str(plural(u64::from(entries)))?;
+    write!(out, ", {links} link")?;
+    out.push_str(plural(links))?;
+    out.push_str(" followed</text>\n")
 }
 
 // The numbers of the tracks, above.
-fn track_numbers(out: &mut [u8], at: usize) -> usize {
-    let mut n = at;
-    for track in 0..35u8 {
-        n = form(
+fn track_numbers(out: &mut String) -> Result<(), AllocError> {
+    for track in 0..TRACKS {
+        let x = 30 * u32::from(track) + 14;
+        write!(
             out,
-            n,
-            b"<text x=\"%.5\" y=\"-8\" class=\"m q\">%</text>\n",
-            &[30 * (track as u32) + 14, track as u32],
-        );
+            "<text x=\"{x}.5\" y=\"-8\" class=\"m q\">{track}</text>\n"
+        )?;
     }
-    n
+    Ok(())
 }
 
 // The numbers of the sectors, at the left.
-fn sector_numbers(out: &mut [u8], at: usize, per: u8) -> usize {
-    let mut n = at;
+fn sector_numbers(out: &mut String, per: u8) -> Result<(), AllocError> {
     for sector in 0..per {
-        n = form(
+        let y = 30 * u32::from(sector) + 19;
+        write!(
             out,
-            n,
-            b"<text x=\"-10\" y=\"%\" class=\"r q\">%</text>\n",
-            &[30 * (sector as u32) + 19, sector as u32],
-        );
+            "<text x=\"-10\" y=\"{y}\" class=\"r q\">{sector}</text>\n"
+        )?;
     }
-    n
+    Ok(())
 }
 
 // The edges of the picture, and the ground of its sectors.
-fn edges(out: &mut [u8], at: usize, per: u8) -> usize {
-    let mut n = form(
+fn edges(out: &mut String, per: u8) -> Result<(), AllocError> {
+    let middle = 15 * u32::from(per);
+    write!(
         out,
-        at,
-        b"<g transform=\"translate(58 100)\">\n<text x=\"-10\" y=\"-8\" class=\"r q\">track</text>\n<text x=\"-%\" y=\"-38\" class=\"m q\" transform=\"rotate(-90)\">sector</text>\n",
-        &[15 * (per as u32)],
-    );
-    n = track_numbers(out, n);
-    n = sector_numbers(out, n, per);
-    form(
+        "<g transform=\"translate(58 100)\">\n<text x=\"-10\" y=\"-8\" class=\"r q\">track</text>\n<text x=\"-{middle}\" y=\"-38\" class=\"m q\" transform=\"rotate(-90)\">sector</text>\n"
+    )?;
+    track_numbers(out)?;
+    sector_numbers(out, per)?;
+    let high = 30 * u32::from(per) + 1;
+    write!(
         out,
-        n,
-        b"<rect x=\"-1\" y=\"-1\" width=\"1051\" height=\"%\" fill=\"#d0d0d0\"/>\n",
-        &[30 * (per as u32) + 1],
+        "<rect x=\"-1\" y=\"-1\" width=\"1051\" height=\"{high}\" fill=\"#d0d0d0\"/>\n"
     )
 }
 
 // The sectors, with all that is drawn upon them.
-fn sectors(disk: &[u8], per: u8, uses: &[u32], entries: &[u8], out: &mut [u8], at: usize) -> usize {
-    let mut n = edges(out, at, per);
-    n = columns(disk, per, uses, entries, CELLS, out, n);
-    n = add(out, n, b"<g class=\"n\">\n");
-    n = columns(disk, per, uses, entries, MARKS, out, n);
-    n = arrows::arrows(disk, per, out, n);
-    n = columns(disk, per, uses, entries, LETTERS, out, n);
-    add(out, n, b"</g>\n</g>\n")
+fn sectors(out: &mut String, d: Drawing) -> Result<(), AllocError> {
+    edges(out, d.per)?;
+    d.layer(out, Layer::Cells)?;
+    out.push_str("<g class=\"n\">\n")?;
+    d.layer(out, Layer::Marks)?;
+    draw_arrows(out, d.disk, d.per)?;
+    d.layer(out, Layer::Letters)?;
+    out.push_str("</g>\n</g>\n")
 }
 
-// What explains them.
-fn keys(
-    disk: &[u8],
-    per: u8,
-    uses: &[u32],
-    entries: &[u8],
-    files: u32,
-    out: &mut [u8],
-    at: usize,
-) -> usize {
-    let n = legend::key(disk, per, uses, out, at);
-    let m = legend::file_key(out, n, per, entries, files);
-    add(out, m, b"</svg>\n")
-}
-
-// What stands above them.
-fn head(out: &mut [u8], per: u8, s: DiskSurvey, from: &[u8]) -> usize {
-    let n = front(out, 0, from, height(per, s.entries));
-    let m = path(out, n, from, false);
-    second_line(out, m, per, s)
-}
-
-// Draws a disk that is not refused into `out`, for which 1,048,576 bytes are enough: how many bytes that takes. `from` is the disk's path.
-pub fn draw(disk: &[u8], from: &[u8], out: &mut [u8]) -> usize {
+// The picture of a disk that is not refused, with its survey. `from` is the disk's path.
+pub fn draw(alloc: Global, disk: &[u8], s: DiskSurvey, from: &[u8]) -> Result<String, AllocError> {
     let per = sectors_of(disk);
-    let s = files::survey(disk);
-    let uses = uses::uses_of(disk);
-    let mut entries = space();
-    catalog::parse_catalogs(disk, &mut entries);
-    let n = head(out, per, s, from);
-    let m = sectors(disk, per, &uses, &entries, out, n);
-    keys(disk, per, &uses, &entries, s.entries, out, m)
+    let uses = uses_of(disk);
+    let mut entries = catalog_space();
+    let _ = catalog::parse_catalogs(disk, &mut entries);
+    let drawing = Drawing {
+        disk,
+        per,
+        uses: &uses,
+        entries: &entries,
+        alloc,
+    };
+    let mut out = String::new(alloc);
+    front(&mut out, alloc, from, height(per, s.entries))?;
+    second_line(&mut out, per, s)?;
+    sectors(&mut out, drawing)?;
+    key(&mut out, drawing)?;
+    file_key(&mut out, drawing, s.entries)?;
+    out.push_str("</svg>\n")?;
+    Ok(out)
 }

@@ -12,26 +12,24 @@
 
 use disk::{Sector, Track};
 use files::PAIR_BYTES;
-use outcome::Handed;
-use trial::{bytes_line, handed_line, print, print_line, print_number, refusal_line, sum_of};
+use trial::{
+    bytes_line, filled, handed_line, print, print_line, print_number, refusal_line, shown, sum_of,
+};
 
-fn map_line(free: u32, used: u32, percent: u32) {
-    print_number(b", free", free as u64);
-    print_number(b", used", used as u64);
-    print_line(b", percent", percent as u64);
-}
+// The bytes of an archive of 256 blocks.
+const ARCHIVE: usize = 65536;
 
 fn show_vtoc(disk: &[u8]) {
-    let v = disk::parse_volume_table_of_contents(disk);
-    refusal_line(b"VTOC: refusal", v.refusal);
+    let v = showing::table(b"VTOC: refusal", disk);
     print_number(b"  tracks", v.number_of_tracks_per_diskette as u64);
     print_number(b", sectors", v.number_of_sectors_per_track as u64);
-    map_line(v.free, v.used, v.percent_used);
+    print_number(b", free", v.free as u64);
+    print_number(b", used", v.used as u64);
+    print_line(b", percent", v.percent_used as u64);
 }
 
 fn show_survey(disk: &[u8]) {
-    let s = files::survey(disk);
-    refusal_line(b"survey: refusal", s.refusal);
+    let s = showing::survey(disk);
     print_number(b"  volume", s.volume as u64);
     print_number(b", entries", s.entries as u64);
     print_number(b", free", s.free as u64);
@@ -42,67 +40,54 @@ fn show_survey(disk: &[u8]) {
 }
 
 fn show_window(disk: &[u8], track: u8, sector: u8) {
-    let number = disk::window_refusal(disk, disk, true, Track(track), Sector(sector));
-    let bytes = disk::window(disk, disk, true, Track(track), Sector(sector));
-    refusal_line(b"window: refusal", number);
+    let window = disk::window(disk, disk, true, Track(track), Sector(sector));
+    let bytes = shown(b"window: refusal", window, b"");
     print_number(b"  length", bytes.len() as u64);
     print_line(b", sum", sum_of(bytes));
 }
 
 fn show_pairs(disk: &[u8], track: u8, sector: u8) {
     let mut out = [0u8; PAIR_BYTES];
-    let h = files::track_sector_pairs(disk, Track(track), Sector(sector), &mut out);
-    handed_line(b"pairs: refusal", h);
-    bytes_line(h, &out);
+    let answer = files::track_sector_pairs(disk, Track(track), Sector(sector), &mut out);
+    handed_line(b"pairs: refusal", answer);
+    bytes_line(answer, &out);
 }
 
 fn entry_files(disk: &[u8]) {
-    let mut out = long();
-    let h = files::file(disk, 0, &mut out);
-    handed_line(b"entry 0: refusal", h);
-    bytes_line(h, &out);
-    let g = files::fetch(disk, b"A", &mut out);
-    handed_line(b"file A: refusal", g);
-    bytes_line(g, &out);
+    let mut out: [u8; 66000] = filled(0);
+    let first = files::file(disk, 0, &mut out);
+    handed_line(b"entry 0: refusal", first);
+    bytes_line(first, &out);
+    let named = files::fetch(disk, b"A", &mut out);
+    handed_line(b"file A: refusal", named);
+    bytes_line(named, &out);
 }
 
 fn show_files(disk: &[u8]) {
-    let mut out = short();
-    let l = catalog::parse_catalogs(disk, &mut out);
-    handed_line(b"catalog: refusal", l.handed);
-    bytes_line(l.handed, &out);
-    print_line(b"  pages", l.pages as u64);
+    let mut out: [u8; 8192] = filled(0);
+    let listing = catalog::parse_catalogs(disk, &mut out);
+    let answer = listing.map(|l| l.length);
+    handed_line(b"catalog: refusal", answer);
+    bytes_line(answer, &out);
+    print_line(b"  pages", listing.map_or(0, |l| l.pages as u64));
     entry_files(disk);
 }
 
 // The length of the archive at hand afterwards, `size` being the length before.
 fn show_archive(disk: &[u8], hand: &mut [u8], size: usize) -> usize {
-    let mut space = blocks();
-    let h = writer::write_archive(disk, &mut space);
-    handed_line(b"archive: refusal", h);
-    if h.refusal != 0 {
+    let mut space: [u8; ARCHIVE] = filled(0);
+    let answer = writer::write_archive(disk, &mut space);
+    handed_line(b"archive: refusal", answer);
+    let Ok(length) = answer else {
         return size;
-    }
-    bytes_line(h, &space);
-    lists::copy_at(lists::part(&space, 0, h.length), hand, 0);
-    h.length
+    };
+    bytes_line(answer, &space);
+    lists::copy_at(lists::part(&space, 0, length), hand, 0);
+    length
 }
 
 fn show_checked(disk: &[u8], archive: &[u8]) {
-    refusal_line(b"check: refusal", writer::check_archive(disk, archive));
-}
-
-// Space for an archive of 256 blocks, for the longest file and for a catalog. What it holds is not promised, so that lending it costs no proof.
-fn blocks() -> [u8; 65536] {
-    [0; 65536]
-}
-
-fn long() -> [u8; 66000] {
-    [0; 66000]
-}
-
-fn short() -> [u8; 8192] {
-    [0; 8192]
+    refusal_line(b"check: refusal", &writer::check_archive(disk, archive));
 }
 
 // The steps that show an answer: how long the archive at hand is afterwards.
@@ -132,22 +117,9 @@ fn act(disks: &mut [u8], hand: &mut [u8], size: usize, step: [u8; 6]) -> usize {
     size
 }
 
-fn run(disks: &mut [u8], hand: &mut [u8]) {
-    let mut size: usize = 0;
-    let mut left: u32 = 100000;
-    while left > 0 {
-        let s = trial::next_step();
-        if !s.more {
-            return;
-        }
-        let step = s.bytes;
-        size = act(disks, hand, size, step);
-        left -= 1;
-    }
-}
-
 fn main() {
     let mut disks = laying::disks();
-    let mut hand = blocks();
-    run(&mut disks, &mut hand);
+    let mut hand: [u8; ARCHIVE] = filled(0);
+    let mut size: usize = 0;
+    trial::run_script(|step| size = act(&mut disks, &mut hand, size, step));
 }

@@ -1,23 +1,16 @@
-// What the trial programs share: the steps of a script, numbers made of bytes, pokes, and what is printed.
+// What the trial programs share: the steps of a script and its run, numbers made of bytes, pokes, and what is printed.
 // It is proved to end and never to trap, and beyond that only the ranges that the programs need.
 #![tactic(auto)]
 
 ghost use Rattle.std.specs.Prelude.{◌<◌};
 
 use lists::{byte_at, part};
-use outcome::{Handed, Word};
+use outcome::Refusal;
 
 // Standard input and standard output, by their descriptors.
 pub const STDIN_FILENO: i32 = 0;
 
 pub const STDOUT_FILENO: i32 = 1;
-
-// A step of a script: a line of six bytes in hexadecimal. `more` is false where no whole line is left.
-#[derive(Clone, Copy)]
-pub struct Step {
-    pub more: bool,
-    pub bytes: [u8; 6],
-}
 
 fn digit(c: u8) -> u8
     ensures { result < 16 }
@@ -46,16 +39,28 @@ fn bytes_of(line: &[u8; 18]) -> [u8; 6] {
     ]
 }
 
-// The next step on standard input. A line that is cut short is told.
-pub fn next_step() -> Step {
+// The next step of the script on standard input, a line of six bytes in hexadecimal; none where no whole line is left. A line that is cut short is told.
+pub fn next_step() -> Option<[u8; 6]> {
     let mut line = [0u8; 18];
     let n = io::read_full(STDIN_FILENO, &mut line);
-    if (0 < n) & (n < 18) {
+    if n == 18 {
+        return Some(bytes_of(&line));
+    }
+    if 0 < n {
         print(b"a line is cut short\n");
     }
-    Step {
-        more: n == 18,
-        bytes: bytes_of(&line),
+    None
+}
+
+// Takes the steps of the script one by one, 100,000 at most.
+pub fn run_script<F: FnMut([u8; 6])>(mut act: F)
+    requires { F.IsAlwaysCallable act }
+{
+    for _turn in 0..100000u32 {
+        let Some(step) = next_step() else {
+            return;
+        };
+        act(step);
     }
 }
 
@@ -101,31 +106,29 @@ pub fn put_ramp(bytes: &mut [u8], at: usize, first: u8) {
     }
 }
 
-// A flat disk of zeros. What is in an array is not promised here, so that lending it costs its callers no proof.
+// An array of v alone. What is in it is not promised here, so that lending it costs its callers no proof.
+pub fn filled<T: Copy, const N: usize>(v: T) -> [T; N] {
+    [v; N]
+}
+
+// A flat disk of zeros.
 pub fn disk() -> [u8; 143360] {
-    [0; 143360]
+    filled(0)
 }
 
 // As many bytes 55h, to see what a call leaves.
 pub fn disk_of_55() -> [u8; 143360] {
-    [0x55; 143360]
+    filled(0x55)
 }
 
 // Space for a small answer, each byte 55h.
 pub fn space() -> [u8; 4096] {
-    [0x55; 4096]
+    filled(0x55)
 }
 
 // Whether each byte is 55h.
 pub fn untouched(bytes: &[u8]) -> bool {
-    let mut i: usize = 0;
-    while i < bytes.len() {
-        if byte_at(bytes, i) != 0x55 {
-            return false;
-        }
-        i += 1;
-    }
-    true
+    bytes.iter().all(|b| *b == 0x55)
 }
 
 // One byte more in a sum that depends on the order.
@@ -138,10 +141,8 @@ fn summed(sum: u64, n: u8) -> u64
 // Such a sum of all bytes.
 pub fn sum_of(bytes: &[u8]) -> u64 {
     let mut sum: u64 = 0;
-    let mut i: usize = 0;
-    while i < bytes.len() {
-        sum = summed(sum, byte_at(bytes, i));
-        i += 1;
+    for b in bytes {
+        sum = summed(sum, *b);
     }
     sum
 }
@@ -164,10 +165,8 @@ pub fn print_line(text: &[u8], n: u64) {
 
 // Bytes as decimal numbers, a space before each.
 pub fn print_decimals(bytes: &[u8]) {
-    let mut i: usize = 0;
-    while i < bytes.len() {
-        print_number(b"", byte_at(bytes, i) as u64);
-        i += 1;
+    for b in bytes {
+        print_number(b"", *b as u64);
     }
 }
 
@@ -180,38 +179,65 @@ fn digit_of(n: u8) -> u8 {
 
 // Bytes in hexadecimal, with capitals and a space before each.
 pub fn print_hex(bytes: &[u8]) {
-    let mut i: usize = 0;
-    while i < bytes.len() {
-        let b = byte_at(bytes, i);
-        print(&[32, digit_of(b / 16), digit_of(b % 16)]);
-        i += 1;
+    for b in bytes {
+        print(&[32, digit_of(*b / 16), digit_of(*b % 16)]);
     }
 }
 
-fn print_word(word: Word) {
-    let letters = word.0;
-    print(part(&letters, 0, word.1 as usize));
-}
-
-// Text, the number of a refusal and its word.
-pub fn refusal_line(text: &[u8], refusal: u8) {
-    print_number(text, refusal as u64);
-    if refusal != 0 {
-        print(b", ");
-        print_word(outcome::refusal_word(refusal));
+// Text, the number of a refusal, 0 for none, and its word.
+pub fn refusal_line<T>(text: &[u8], answer: &Result<T, Refusal>) {
+    match answer {
+        Ok(_) => print_number(text, 0),
+        Err(refusal) => {
+            print_number(text, u8::from(*refusal) as u64);
+            print(b", ");
+            print(refusal.word().as_bytes());
+        },
     }
     print(b"\n");
 }
 
-// The number and the length of an answer.
-pub fn handed_line(text: &[u8], h: Handed) {
-    refusal_line(text, h.refusal);
-    print_line(b"  length", h.length as u64);
+// Shows the refusal of an answer: what it gives, `none` under a refusal.
+pub fn shown<T: Copy>(text: &[u8], answer: Result<T, Refusal>, none: T) -> T {
+    refusal_line(text, &answer);
+    answer.unwrap_or(none)
+}
+
+// How many were handed over: none under a refusal.
+pub fn length_of(answer: Result<usize, Refusal>) -> usize {
+    answer.unwrap_or(0)
+}
+
+// The refusal and the length of an answer.
+pub fn handed_line(text: &[u8], answer: Result<usize, Refusal>) {
+    let length = shown(text, answer, 0);
+    print_line(b"  length", length as u64);
 }
 
 // The first byte of what was handed over, and its sum.
-pub fn bytes_line(h: Handed, bytes: &[u8]) {
-    let written = part(bytes, 0, h.length);
+pub fn bytes_line(answer: Result<usize, Refusal>, bytes: &[u8]) {
+    let written = part(bytes, 0, length_of(answer));
     print_number(b"  first byte", byte_at(written, 0) as u64);
     print_line(b", sum", sum_of(written));
+}
+
+// What was handed over, as `show` prints it, and the byte behind all of it.
+pub fn handed_lines<F: FnOnce(&[u8])>(
+    text: &[u8],
+    answer: Result<usize, Refusal>,
+    space: &[u8],
+    show: F,
+)
+    requires { F.IsAlwaysCallable show }
+{
+    handed_line(text, answer);
+    if untouched(space) {
+        print(b"  nothing changed\n");
+        return;
+    }
+    print(b"  bytes");
+    let length = length_of(answer);
+    show(part(space, 0, length));
+    print(b"\n");
+    print_line(b"  behind", byte_at(space, length) as u64);
 }

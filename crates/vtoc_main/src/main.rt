@@ -7,34 +7,22 @@
 #![tactic(auto)]
 
 use disk::{Sector, Track, VolumeTableOfContents};
-use trial::{print, print_line, refusal_line};
+use trial::{print, print_line, shown};
 
 fn byte_line(text: &[u8], n: u8) {
     print_line(text, n as u64);
 }
 
-fn count_line(text: &[u8], n: u32) {
-    print_line(text, n as u64);
-}
-
 fn direction_line(n: i8) {
-    if n == 1 {
-        print(b"direction 1\n");
-        return;
+    match n {
+        1 => print(b"direction 1\n"),
+        -1 => print(b"direction -1\n"),
+        0 => print(b"direction 0\n"),
+        _ => print(b"direction neither 1, -1 nor 0\n"),
     }
-    if n == -1 {
-        print(b"direction -1\n");
-        return;
-    }
-    if n == 0 {
-        print(b"direction 0\n");
-        return;
-    }
-    print(b"direction neither 1, -1 nor 0\n");
 }
 
 fn front(t: VolumeTableOfContents) {
-    refusal_line(b"table: refusal", t.refusal);
     byte_line(
         b"first catalog track",
         t.track_number_of_first_catalog_sector,
@@ -54,24 +42,22 @@ fn back(t: VolumeTableOfContents) {
     byte_line(b"tracks", t.number_of_tracks_per_diskette);
     byte_line(b"sectors", t.number_of_sectors_per_track);
     print_line(b"sector size", t.number_of_bytes_per_sector as u64);
-    count_line(b"free", t.free);
-    count_line(b"used", t.used);
-    count_line(b"percent used", t.percent_used);
+    print_line(b"free", t.free as u64);
+    print_line(b"used", t.used as u64);
+    print_line(b"percent used", t.percent_used as u64);
 }
 
 fn show_table(disk: &[u8]) {
-    let t = disk::parse_volume_table_of_contents(disk);
+    let t = showing::table(b"table: refusal", disk);
     front(t);
     back(t);
-    let p = catalog::count_pages(disk);
-    refusal_line(b"catalog: refusal", p.refusal);
-    print_line(b"pages", p.count as u64);
+    let pages = catalog::count_pages(disk).map(|p| p.count as u64);
+    print_line(b"pages", shown(b"catalog: refusal", pages, 0));
 }
 
 fn show_window<'a>(disk: &'a [u8], image: &'a [u8], flat: bool, track: u8, sector: u8) {
-    let number = disk::window_refusal(disk, image, flat, Track(track), Sector(sector));
-    let part = disk::window(disk, image, flat, Track(track), Sector(sector));
-    refusal_line(b"window: refusal", number);
+    let window = disk::window(disk, image, flat, Track(track), Sector(sector));
+    let part = shown(b"window: refusal", window, b"");
     print_line(b"length", part.len() as u64);
     byte_line(b"first byte", lists::byte_at(part, 0));
     byte_line(b"last byte", lists::byte_at(part, 255));
@@ -88,20 +74,7 @@ fn act(disk: &mut [u8], step: [u8; 6]) {
     }
 }
 
-fn run(disk: &mut [u8]) {
-    let mut left: u32 = 100000;
-    while left > 0 {
-        let s = trial::next_step();
-        if !s.more {
-            return;
-        }
-        let step = s.bytes;
-        act(disk, step);
-        left -= 1;
-    }
-}
-
 fn main() {
     let mut disk = trial::disk();
-    run(&mut disk);
+    trial::run_script(|step| act(&mut disk, step));
 }

@@ -16,7 +16,8 @@ use Rattle.lists.proofs.Split.{by_test, and_assoc, and_true}
 use Rattle.lists.proofs.Select.{onward, onward_next, onward_end, length_onward, filter_every}
 use Rattle.lists.proofs.Chunks.{every_append, flat_map_append, length_chunks}
 use Rattle.lists.proofs.Put.{Put, put_none, put_more, placed_put}
-use Rattle.outcome.specs.Outcome.{given, each}
+use Rattle.std.specs.Prelude.{Ok}
+use Rattle.outcome.specs.Outcome.{each}
 use Rattle.outcome.proofs.Outcome.{each_cons, each_every}
 use Rattle.disk.specs.declared.Place.{Place}
 use Rattle.catalog.specs.Catalog.{Entry, live, entry_at, entries_of}
@@ -98,7 +99,7 @@ module _ (n : ℕ) (d : List ℕ) where
   raws_short [] = none
   raws_short (p ∷ ps) = every_append (filter_every live (raw_short p (below 7))) (raws_short ps)
 
-  pub names_short : (ps : List Place) (fs : List File) → each (file_of n d) (flat_map (entries_of n d) ps) ≡ given fs → Short fs
+  pub names_short : (ps : List Place) (fs : List File) → each (file_of n d) (flat_map (entries_of n d) ps) ≡ Ok fs → Short fs
   names_short ps fs h =
       each_every (file_of n d) (λ (f : File). length f.raw ≤ 30)
       (λ e f r g. let q = ap (λ (y : File). length y.raw) (file_given n d e f g).3 in omega arith) fs (raws_short ps) h
@@ -129,7 +130,7 @@ module _ (w : Bool) (a : List ℕ) where
 
   module _ (n : ℕ) (d : List ℕ) (total : ℕ) where
     -- by entries
-    entries_stepped : (es : List Entry) (fs : List File) (s : Pass) → each (file_of n d) es ≡ given fs → foldl (with_entry w a n d total) s es ≡ foldl (with_file w a total) s fs
+    entries_stepped : (es : List Entry) (fs : List File) (s : Pass) → each (file_of n d) es ≡ Ok fs → foldl (with_entry w a n d total) s es ≡ foldl (with_file w a total) s fs
     unfolding each with_entry with_file
     entries_stepped [] fs s h = let q : fs ≡ [] = cc in rw q refl
     entries_stepped (e ∷ es) fs s h =
@@ -198,7 +199,7 @@ module _ (c : Contents) where
   whole_count = rw (all_count (blocks c) 1 c.files) (omega arith)
 
   -- the pass from the start on
-  module _ (w : Bool) (a : List ℕ) (n : ℕ) (d : List ℕ) (ps : List Place) (e : each (file_of n d) (flat_map (entries_of n d) ps) ≡ given c.files) (s : Pass) (z : s.block ≡ 0) where
+  module _ (w : Bool) (a : List ℕ) (n : ℕ) (d : List ℕ) (ps : List Place) (e : each (file_of n d) (flat_map (entries_of n d) ps) ≡ Ok c.files) (s : Pass) (z : s.block ≡ 0) where
     pub pass_is : foldl (with_page w a n d (blocks c)) (stepped w a s (first_block c.volume (if_any c.files 1) (blocks c))) ps ≡ foldl (stepped w a) s whole_blocks
     unfolding whole_blocks stepped
     pass_is =

@@ -1,4 +1,5 @@
 -- The file of an entry, made of the sectors whose starts were collected along its lists. Assumes nothing.
+use Rattle.std.specs.Prelude.{Ok}
 use mathlib.Core.Path.{◌≡◌, refl, sym, ap, subst, ◌∙◌}
 use mathlib.Core.Bool.{Bool, true}
 use mathlib.Core.List.{List, [], ◌∷◌, ◌++◌, flat_map}
@@ -16,7 +17,6 @@ use Rattle.lists.specs.Words.{word_at}
 use Rattle.lists.proofs.Split.{by_lt, both_true}
 use Rattle.lists.proofs.Put.{put_is, put_front}
 use Rattle.lists.proofs.Chunks.{flat_map_append, length_chunks}
-use Rattle.outcome.specs.Outcome.{given}
 use Rattle.disk.specs.declared.Place.{Place}
 use Rattle.disk.specs.Disk.{place, start, sectors, on_disk, word_of, bytes_of}
 use Rattle.catalog.specs.declared.EntryHead.{EntryHead}
@@ -94,7 +94,7 @@ module _ (n : ℕ) (d : List ℕ) where
 
 -- ---- the file of an entry
 -- an entry as it was read, with the bytes of its file, is its file
-with_bytes_lem : (n : ℕ) (d : List ℕ) (x : ℕ) (f : File) → file_of n d (entry_from d x) ≡ given f → file_with (entry_head (entry_from d x)) (entry_from d x).raw f.bytes ≡ f
+with_bytes_lem : (n : ℕ) (d : List ℕ) (x : ℕ) (f : File) → file_of n d (entry_from d x) ≡ Ok f → file_with (entry_head (entry_from d x)) (entry_from d x).raw f.bytes ≡ f
 with_bytes_lem n d x f h =
     let e : Entry = entry_from d x in
     let g = file_given n d e f h in
@@ -113,9 +113,9 @@ module _ (n : ℕ) (d : List ℕ) (x : ℕ) (a : Has n d (entry_from d x)) where
   bytes_are : a.file.bytes ≡ bytes_in (entry_from d x).kind (flat_map (bytes_of n d) ps)
   bytes_are = ap (λ (y : File). y.bytes) (file_given n d (entry_from d x) a.file a.is).3
 
-  walked : walk_of n d (start_of n) (entry_from d x).list ≡ given (flat_map (start_of n) ps)
+  walked : walk_of n d (start_of n) (entry_from d x).list ≡ Ok (flat_map (start_of n) ps)
   unfolding walk_of
-  walked = rw (file_given n d (entry_from d x) a.file a.is).1 (ap given (joined_lists n d (start_of n) (file_given n d (entry_from d x) a.file a.is).0))
+  walked = rw (file_given n d (entry_from d x) a.file a.is).1 (ap Ok (joined_lists n d (start_of n) (file_given n d (entry_from d x) a.file a.is).0))
 
   -- there is space for the starts, and their lists are given
   pub entry_room : (z : List ℕ) → z ≡ replicate 257 0 → Roomy 257 (spot 0) z

@@ -17,7 +17,7 @@ use Rattle.archive.specs.Blocks.{entry_bytes}
 use Rattle.writer.specs.declared.Mark.{Mark}
 use Rattle.writer.specs.Passes.{Pass, pass_of, size_by, start_by, stated_in, made_at, head_at, file_with, stepped, Made}
 use Rattle.writer.proofs.Pieces.{entry_mod}
-use Rattle.writer.proofs.Emits.{emit_written}
+use Rattle.writer.proofs.Emits.{emit_written, target_written}
 
 -- ---- the numbers in an entry block
 pub entry_last : (a t : ℕ) → a ≡ t → 0 ≡ cond (eqb a t) 0 a % 65536
@@ -45,7 +45,7 @@ head_made t b k size e raw u v r p q z =
 pub emit_of : (w : Bool) (a : List ℕ) (s : Pass) (m : Mark) (o o' : List ℕ) (r : Mark) (y z : List ℕ) → y ≡ z → Made (stepped w a s y) 1 m o o' r → Made (stepped w a s z) 1 m o o' r
 emit_of w a s m o o' r y z e h = subst (λ (x : List ℕ). Made (stepped w a s x) 1 m o o' r) e h
 
-pub ruleset heads = (head_made, emit_of, emit_written, rules)
+pub ruleset heads = (head_made, emit_of, emit_written, target_written, rules)
 
 -- ---- a file's size
 pub stated_is : (d ns : List ℕ) (n v : ℕ) → n ≡ get_or ns 0 0 → v ≡ word_at d (n + 2) → v ≡ stated_in d ns

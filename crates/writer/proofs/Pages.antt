@@ -11,7 +11,8 @@ use borrow.Author.Rules.{rules}
 use Rattle.lists.specs.Select.{filter}
 use Rattle.lists.proofs.Split.{by_test}
 use Rattle.lists.proofs.Select.{onward, onward_next, onward_end}
-use Rattle.outcome.specs.Outcome.{Outcome, given, each}
+use Rattle.std.specs.Prelude.{Ok}
+use Rattle.outcome.specs.Outcome.{Outcome, each}
 use Rattle.outcome.proofs.Outcome.{gives, each_cons, each_append}
 use Rattle.disk.specs.declared.Place.{Place}
 use Rattle.disk.specs.Disk.{start, link_of}
@@ -66,7 +67,7 @@ module _ (w : Bool) (a : List ℕ) (n : ℕ) (d : List ℕ) (total : ℕ) where
 
     module _ (i : ℕ) (t : Mark) (o : List ℕ) (c : Paging i t o) where
       split : i < 7 → live (entry_at n d p i) ≡ true
-          → (f : File) × (fs : List File) × (file_of n d (entry_at n d p i) ≡ given f) × (each (file_of n d) (ahead (i + 1)) ≡ given fs) × (c.filed.files ≡ f ∷ fs)
+          → (f : File) × (fs : List File) × (file_of n d (entry_at n d p i) ≡ Ok f) × (each (file_of n d) (ahead (i + 1)) ≡ Ok fs) × (c.filed.files ≡ f ∷ fs)
       split h l = each_cons (file_of n d) (entry_at n d p i) (ahead (i + 1)) c.filed.files (sym (ap (each (file_of n d)) (ahead_live i h l)) ∙ c.filed.is)
 
       pub paging_due : (x : ℕ) → i < 7 → x ≡ start n p + (11 + 35 * i) → Due n d (entry_from d x)
@@ -121,11 +122,11 @@ module _ (w : Bool) (a : List ℕ) (n : ℕ) (d : List ℕ) (total : ℕ) where
   abbrev join_entries : List Entry → Place → List Entry
   join_entries = joins (entries_of n d)
 
-  made_entries : (o : Outcome (List Place)) (ps : List Place) → o ≡ given ps → made join_entries [] o ≡ given (flat_map (entries_of n d) ps)
-  made_entries o ps e = rw e (ap given (joined_is (entries_of n d) [] ps))
+  made_entries : (o : Outcome (List Place)) (ps : List Place) → o ≡ Ok ps → made join_entries [] o ≡ Ok (flat_map (entries_of n d) ps)
+  made_entries o ps e = rw e (ap Ok (joined_is (entries_of n d) [] ps))
 
   -- the next page's entries are among all
-  among : (N k : ℕ) (s : List Entry) (p : Place) (t : List Entry) → rest join_entries n (sound_page n d) (next_page n d) N k s p ≡ given t
+  among : (N k : ℕ) (s : List Entry) (p : Place) (t : List Entry) → rest join_entries n (sound_page n d) (next_page n d) N k s p ≡ Ok t
       → (u : List Entry) × (t ≡ (s ++ entries_of n d p) ++ u)
   among N k s p t e = go (next_page n d p) refl
     where
@@ -150,10 +151,10 @@ module _ (w : Bool) (a : List ℕ) (n : ℕ) (d : List ℕ) (total : ℕ) where
       pub done : List Entry
       pub whole : List Entry
       pub filed : Filed n d whole
-      pub entries : rest join_entries n (sound_page n d) (next_page n d) (35 * n + 1) k done p ≡ given whole
+      pub entries : rest join_entries n (sound_page n d) (next_page n d) (35 * n + 1) k done p ≡ Ok whole
       pub final : Pass
-      pub comes : walk_made w a n d total (pass_of m o₀) first ≡ given final
-      pub is : rest (with_page w a n d total) n (sound_page n d) (next_page n d) (35 * n + 1) k (pass_of t o) p ≡ given final
+      pub comes : walk_made w a n d total (pass_of m o₀) first ≡ Ok final
+      pub is : rest (with_page w a n d total) n (sound_page n d) (next_page n d) (35 * n + 1) k (pass_of t o) p ≡ Ok final
       pub long : length o ≡ length o₀
       pub bound : t.block ≤ 1 + 1827 * k
 
@@ -198,7 +199,7 @@ module _ (w : Bool) (a : List ℕ) (n : ℕ) (d : List ℕ) (total : ℕ) where
         walking_last z =
             let q : c.final ≡ with_page w a n d total (pass_of t o) p =
             rest_last (with_page w a n d total) n (sound_page n d) (next_page n d) (35 * n + 1) k (pass_of t o) p c.final c.is (rw (← e, z) refl) in
-            record { is = c.comes ∙ ap given (q ∙ sym u.is) }
+            record { is = c.comes ∙ ap Ok (q ∙ sym u.is) }
 
         pub walking_more : l ≡ false → k < most → (b : Place) → b ≡ link_of n d p → Walking most (k + 1) b r o'
         unfolding next_page

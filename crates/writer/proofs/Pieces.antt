@@ -5,7 +5,7 @@ use Prim.Native.Nat.{ℕ, ◌+◌, ◌-◌, ◌*◌, ◌/◌, ◌%◌, ◌<◌, 
 use native.Mathlib.Omega.{arith}
 use native.Mathlib.Nat.{mod-mod}
 use lib.Arith.{mod-mul, digits_mod, digits_div}
-use lib.ListN.{get_or-eq_default, length, length-take, take, drop, get_or, replicate, length-append, length-replicate}
+use lib.ListN.{length, length-take, take, drop, get_or, replicate, length-append, length-replicate}
 use borrow.Author.Tests.{eq-eqb, ne_eqb, lt-leb}
 use borrow.Author.Rules.{rules}
 use Rattle.lists.specs.Fill.{placed, padded}
@@ -17,17 +17,6 @@ use Rattle.catalog.specs.Catalog.{shown}
 use Rattle.files.specs.Contents.{File}
 use Rattle.archive.specs.Archive.{data_block, entry_block}
 use Rattle.writer.specs.Passes.{head_of, tail_of, next_data, made_at}
-
-pub min_less : (a b : ℕ) → a < b → a ≡ min a b
-min_less a b h = omega arith
-
-pub min_other : (a b : ℕ) → b ≤ a → b ≡ min a b
-min_other a b h = omega arith
-
-pub start_past : (ns : List ℕ) (i : ℕ) → length ns ≤ i → 0 ≡ get_or ns i 0
-start_past ns i h = sym (get_or-eq_default ns 0 h)
-
-pub ruleset mins = (min_less, min_other, start_past, rules)
 
 module _ (d ns : List ℕ) (from size : ℕ) where
   pub head_is : (n k : ℕ) (x : List ℕ) → n ≡ get_or ns (from / 256) 0 → k ≡ min size (256 - from % 256) → x ≡ take k (drop (n + from % 256) d)
@@ -94,8 +83,6 @@ module _ (k b j : ℕ) where
 
   pub next_some : (j + 1 ≡ k → ⊥) → (b + j + 1) % 65536 ≡ next_data k b j % 65536
   next_some h = rw (ne_eqb _ _ h) refl
-
-pub ruleset nexts = (next_none, next_some, rules)
 
 -- of a number that is written in two bytes, only these count
 le2_mod : (x : ℕ) → le2 (x % 65536) ≡ le2 x

@@ -1,11 +1,12 @@
 -- What a pass of the writer or of the checker does: it makes the archive block by block from the disk, and writes or compares each block.
-use Rattle.std.specs.Prelude.{◌≡◌, Bool, true, cond, ◌&&◌, ℕ, ◌+◌, ◌-◌, ◌*◌, ◌/◌, ◌%◌, ◌≤◌, min, length, take, drop, get_or, eqb, leb}
+use Rattle.std.specs.Prelude.{◌≡◌, Bool, true, false, cond, ◌&&◌, ℕ, ◌+◌, ◌-◌, ◌*◌, ◌/◌, ◌%◌, ◌≤◌, min, length, take, drop, get_or, eqb, leb}
 use mathlib.Core.List.{List, [], ◌∷◌, ◌++◌, map, foldl, flat_map}
 use Rattle.lists.specs.Every.{Every}
 use Rattle.lists.specs.Fill.{placed, below}
 use Rattle.lists.specs.Same.{same}
 use Rattle.lists.specs.Words.{word_at}
-use Rattle.outcome.specs.Outcome.{Outcome, refused, given, ◌>>=◌, each}
+use Rattle.std.specs.Prelude.{Ok, Err}
+use Rattle.outcome.specs.Outcome.{Outcome, ◌>>=◌, each}
 use Rattle.disk.specs.Chain.{walk}
 use Rattle.disk.specs.declared.Place.{Place}
 use Rattle.disk.specs.Disk.{start, sectors}
@@ -16,7 +17,19 @@ use Rattle.files.specs.Contents.{File, file_of}
 use Rattle.files.specs.Copies.{cut_of}
 use Rattle.files.specs.Survey.{data_blocks}
 use Rattle.archive.specs.Archive.{data_block, entry_block}
+use Rattle.writer.specs.declared.Target.{Target}
+use Rattle.writer.specs.declared.Target.TheVariants.{Write, Compare}
 use Rattle.writer.specs.declared.Mark.{Mark}
+
+-- the pass writes
+abbrev pub writes : Target → Bool
+writes Write = true
+writes (Compare a) = false
+
+-- the archive with which it compares
+abbrev pub compared : Target → List ℕ
+compared Write = []
+compared (Compare a) = a.now
 
 -- how far a pass has come: the next block's number, the lent space, and whether all blocks were equal
 pub record Pass : Type 0 where
@@ -108,7 +121,7 @@ module _ (write : Bool) (a : List ℕ) where
   module _ (n : ℕ) (d : List ℕ) (total : ℕ) where
     -- one entry more
     unfoldable pub with_entry : Pass → Entry → Pass
-    with_entry s e = elim (file_of n d e) [ refused r ↦ s | given f ↦ with_file total s f ]
+    with_entry s e = elim (file_of n d e) [ Err r ↦ s | Ok f ↦ with_file total s f ]
 
     -- the same, where it is in use
     abbrev pub with_live : Pass → Entry → Pass
@@ -120,7 +133,7 @@ module _ (write : Bool) (a : List ℕ) where
 
     -- the pages from p on
     unfoldable pub walk_made : Pass → Place → Outcome Pass
-    walk_made s p = walk n (sound_page n d) (next_page n d) (sectors n + 1) [] p >>= λ ps. given (foldl with_page s ps)
+    walk_made s p = walk n (sound_page n d) (next_page n d) (sectors n + 1) [] p >>= λ ps. Ok (foldl with_page s ps)
 
 -- ---- what the steps of the code promise each other
 -- from the mark m to the mark r, at most c blocks were made, and the pass is s
@@ -139,7 +152,7 @@ pub record Sectors (d : List ℕ) (ns : List ℕ) (m : ℕ) : Type 0 where
 pub record Filed (n : ℕ) (d : List ℕ) (es : List Entry) : Type 0 where
   pub sized : length d ≡ 256 * sectors n
   pub files : List File
-  pub is : each (file_of n d) es ≡ given files
+  pub is : each (file_of n d) es ≡ Ok files
 
 -- a place among collected starts
 abbrev pub spot : ℕ → Spot
@@ -153,7 +166,7 @@ start_of n p = start n p ∷ []
 pub record Has (n : ℕ) (d : List ℕ) (e : Entry) : Type 0 where
   pub sized : length d ≡ 256 * sectors n
   pub file : File
-  pub is : file_of n d e ≡ given file
+  pub is : file_of n d e ≡ Ok file
 
 -- it has, if it is in use
 pub record Due (n : ℕ) (d : List ℕ) (e : Entry) : Type 0 where
@@ -162,9 +175,9 @@ pub record Due (n : ℕ) (d : List ℕ) (e : Entry) : Type 0 where
 -- the pages from p on are given, and their entries have their files
 pub record Walked (n : ℕ) (d : List ℕ) (p : Place) : Type 0 where
   pub ps : List Place
-  pub is : walk n (sound_page n d) (next_page n d) (sectors n + 1) [] p ≡ given ps
+  pub is : walk n (sound_page n d) (next_page n d) (sectors n + 1) [] p ≡ Ok ps
   pub filed : Filed n d (flat_map (entries_of n d) ps)
 
 -- the pass that o gives is that of the mark r
 pub record MadeAll (o : Outcome Pass) (r : Mark) (after : List ℕ) : Type 0 where
-  pub is : o ≡ given (pass_of r after)
+  pub is : o ≡ Ok (pass_of r after)

@@ -14,7 +14,13 @@
 #![tactic(auto)]
 
 use lists::part;
-use trial::{place_16, poke, print, print_line, refusal_line, untouched};
+use outcome::Refusal;
+use trial::{
+    filled, handed_line, length_of, place_16, poke, print, print_line, refusal_line, untouched,
+};
+
+// The bytes of 4,097 blocks.
+const ROOM: usize = 1048832;
 
 fn bytes_line(bytes: &[u8]) {
     print(b"  bytes");
@@ -46,13 +52,13 @@ fn behind_lines(bytes: &[u8]) {
     }
 }
 
-fn handed_lines(refusal: u8, length: usize, space: &[u8]) {
-    refusal_line(b"write: refusal", refusal);
-    print_line(b"  length", length as u64);
+fn handed_lines(answer: Result<usize, Refusal>, space: &[u8]) {
+    handed_line(b"write: refusal", answer);
     if untouched(space) {
         print(b"  nothing changed\n");
         return;
     }
+    let length = length_of(answer);
     let written = part(space, 0, length);
     block_lines(written);
     print_line(b"  sum", trial::sum_of(written));
@@ -61,13 +67,13 @@ fn handed_lines(refusal: u8, length: usize, space: &[u8]) {
 
 // The length of the archive at hand afterwards, `size` being the length before.
 fn keep(disk: &[u8], space: &mut [u8], hand: &mut [u8], size: usize) -> usize {
-    let h = writer::write_archive(disk, space);
-    handed_lines(h.refusal, h.length, space);
-    if h.refusal != 0 {
+    let answer = writer::write_archive(disk, space);
+    handed_lines(answer, space);
+    let Ok(length) = answer else {
         return size;
-    }
-    lists::copy_at(part(space, 0, h.length), hand, 0);
-    h.length
+    };
+    lists::copy_at(part(space, 0, length), hand, 0);
+    length
 }
 
 fn keep_in(disk: &[u8], space: &mut [u8], hand: &mut [u8], size: usize, room: usize) -> usize {
@@ -78,23 +84,17 @@ fn keep_in(disk: &[u8], space: &mut [u8], hand: &mut [u8], size: usize, room: us
     size
 }
 
-// Space for 4,097 blocks. What it holds is not promised, so that lending it costs no proof.
-fn space_of(v: u8) -> [u8; 1048832] {
-    [v; 1048832]
-}
-
 fn show_written(disk: &[u8], hand: &mut [u8], size: usize, room: usize) -> usize {
-    let mut space = space_of(0x55);
+    let mut space: [u8; ROOM] = filled(0x55);
     keep_in(disk, &mut space, hand, size, room)
 }
 
 fn show_checked(disk: &[u8], archive: &[u8]) {
-    refusal_line(b"check: refusal", writer::check_archive(disk, archive));
+    refusal_line(b"check: refusal", &writer::check_archive(disk, archive));
 }
 
 fn show_survey(disk: &[u8]) {
-    let s = files::survey(disk);
-    refusal_line(b"survey: refusal", s.refusal);
+    let s = showing::survey(disk);
     print_line(b"  entries", s.entries as u64);
     print_line(b"  archive blocks", s.archive_blocks);
 }
@@ -119,11 +119,7 @@ fn change(disk: &mut [u8], step: [u8; 6]) {
 // So many blocks less so many bytes.
 fn room_of(step: [u8; 6]) -> usize {
     let room = 256 * trial::number(step[1], step[2]);
-    let less = step[3] as usize;
-    if room < less {
-        return 0;
-    }
-    room - less
+    room.saturating_sub(step[3] as usize)
 }
 
 fn act(disk: &mut [u8], hand: &mut [u8], size: usize, step: [u8; 6]) -> usize {
@@ -145,22 +141,9 @@ fn act(disk: &mut [u8], hand: &mut [u8], size: usize, step: [u8; 6]) -> usize {
     size
 }
 
-fn run(disk: &mut [u8], hand: &mut [u8]) {
-    let mut size: usize = 0;
-    let mut left: u32 = 100000;
-    while left > 0 {
-        let s = trial::next_step();
-        if !s.more {
-            return;
-        }
-        let step = s.bytes;
-        size = act(disk, hand, size, step);
-        left -= 1;
-    }
-}
-
 fn main() {
     let mut disk = trial::disk();
-    let mut hand = space_of(0);
-    run(&mut disk, &mut hand);
+    let mut hand: [u8; ROOM] = filled(0);
+    let mut size: usize = 0;
+    trial::run_script(|step| size = act(&mut disk, &mut hand, size, step));
 }

@@ -4,17 +4,8 @@ use Rattle.allot.proofs.mark_sector.Goals as goal
 pub returns-then-table-ne256 : goal.returns-then-table-ne256
 returns-then-table-ne256 c = search marks
 
-pub on_disk-requires : goal.on_disk-requires
-on_disk-requires c = search marks
-
-pub bit_of-requires : goal.bit_of-requires
-bit_of-requires c = search marks
-
 pub mark_in-requires : goal.mark_in-requires
 mark_in-requires c = search marks
-
-pub shape_of-table : goal.shape_of-table
-shape_of-table c = search marks
 
 pub returns-then-on_disk : goal.returns-then-on_disk
 returns-then-on_disk c = search marks

@@ -1,9 +1,6 @@
-use Rattle.catalog.proofs.Turns.{Letters}
-use Prim.Native.Nat.{◌-◌}
+use Rattle.std.proofs.Common.{◌≡◌, take}
+use Rattle.lists.specs.Select.{among}
 use Rattle.catalog.proofs.bad_among.Given as goal
 
-abbrev pub invariant-loop-k : goal.invariant-loop-k
-invariant-loop-k l = Letters l.raw l.n l.k l.bad
-
-abbrev pub decreases-loop-k : goal.decreases-loop-k
-decreases-loop-k l = l.n - l.k
+abbrev pub invariant-loop-b : goal.invariant-loop-b
+invariant-loop-b l = l.bad ≡ among 128 (take l.b-index l.raw)

@@ -1,38 +1,15 @@
-use Rattle.catalog.proofs.Listings.{calls}
+use Rattle.outcome.proofs.Outcome.{passed}
+use Rattle.catalog.proofs.Listings.{call_refused, calls}
 use Rattle.catalog.proofs.catalogs_of.Goals as goal
 
-pub count_pages_of-found-requires : goal.count_pages_of-found-requires
-count_pages_of-found-requires c = search calls
+pub returns-in_err-found : goal.returns-in_err-found
+returns-in_err-found c = call_refused _ _ _ _ _ (passed c.from_residual.ensures.1) c.in_err-found.ensures
 
-pub no_listing-requires : goal.no_listing-requires
-no_listing-requires c = search calls
-
-pub returns-then-found-ne0 : goal.returns-then-found-ne0
-returns-then-found-ne0 c = search calls
-
-pub overflow_cast-size : goal.overflow_cast-size
-overflow_cast-size c = search calls
-
-pub overflow_mul-size : goal.overflow_mul-size
-overflow_mul-size c = search calls
-
-pub no_listing-requires-then-out-size : goal.no_listing-requires-then-out-size
-no_listing-requires-then-out-size c = search calls
-
-pub returns-then-out-size : goal.returns-then-out-size
-returns-then-out-size c = search calls
-
-pub first_page-requires : goal.first_page-requires
-first_page-requires c = search calls
+pub returns-then-out-length : goal.returns-then-out-length
+returns-then-out-length c = search (calls, c.in_ok-found.ensures)
 
 pub write_pages-requires : goal.write_pages-requires
-write_pages-requires c = search calls
-
-pub accepted-requires : goal.accepted-requires
-accepted-requires c = search calls
-
-pub shape_of-out : goal.shape_of-out
-shape_of-out c = search calls
+write_pages-requires c = search (calls, c.in_ok-found.ensures)
 
 pub returns : goal.returns
-returns c = search calls
+returns c = search (calls, c.in_ok-found.ensures)

@@ -1,9 +1,5 @@
 use Rattle.catalog.proofs.Turns.{Walking}
-use Prim.Native.Nat.{◌-◌}
 use Rattle.catalog.proofs.count_from.Given as goal
 
 abbrev pub invariant-loop-k : goal.invariant-loop-k
-invariant-loop-k l = Walking l.per l.disk l.initial.p l.most l.k l.m l.p
-
-abbrev pub decreases-loop-k : goal.decreases-loop-k
-decreases-loop-k l = l.most - l.k
+invariant-loop-k l = Walking l.per l.disk l.initial.p l.most l.k l.entries l.p

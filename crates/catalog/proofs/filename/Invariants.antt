@@ -1,9 +1,5 @@
 use Rattle.catalog.proofs.Shown.{Naming}
-use Prim.Native.Nat.{◌-◌}
 use Rattle.catalog.proofs.filename.Given as goal
 
 abbrev pub invariant-loop-k : goal.invariant-loop-k
 invariant-loop-k l = Naming l.raw l.n l.k l.initial.letters l.letters
-
-abbrev pub decreases-loop-k : goal.decreases-loop-k
-decreases-loop-k l = l.n - l.k

@@ -1,8 +1,6 @@
-use Rattle.catalog.proofs.Shown.{trims}
+use Rattle.std.proofs.Common.{sym, ◌∙◌}
+use lib.ListN.{length-take}
 use Rattle.catalog.proofs.name_bytes.Goals as goal
 
-pub returns-then-raw-lt30 : goal.returns-then-raw-lt30
-returns-then-raw-lt30 c = search trims
-
 pub returns : goal.returns
-returns c = search trims
+returns c = c.min.ensures ∙ sym (length-take 30 _)

@@ -4,23 +4,11 @@ use Rattle.catalog.proofs.parse_catalog.Goals as goal
 pub loop-i-init : goal.loop-i-init
 loop-i-init c = search pagings
 
-pub entry_start-requires : goal.entry_start-requires
-entry_start-requires c = search pagings
-
 pub write_entry-w-requires : goal.write_entry-w-requires
 write_entry-w-requires c = search pagings
 
-pub overflow_step-i : goal.overflow_step-i
-overflow_step-i c = search pagings
-
-pub loop-i-smaller : goal.loop-i-smaller
-loop-i-smaller c = search pagings
-
 pub loop-i-preserved : goal.loop-i-preserved
 loop-i-preserved c = search pagings
-
-pub shape_of-out : goal.shape_of-out
-shape_of-out c = search pagings
 
 pub returns : goal.returns
 returns c = search pagings

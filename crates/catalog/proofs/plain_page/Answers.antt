@@ -4,20 +4,8 @@ use Rattle.catalog.proofs.plain_page.Goals as goal
 pub loop-i-init : goal.loop-i-init
 loop-i-init c = search plains
 
-pub entry_start-requires : goal.entry_start-requires
-entry_start-requires c = search plains
-
-pub plain_entry-requires : goal.plain_entry-requires
-plain_entry-requires c = search plains
-
 pub returns-then-not-plain_entry : goal.returns-then-not-plain_entry
 returns-then-not-plain_entry c = search plains
-
-pub overflow_step-i : goal.overflow_step-i
-overflow_step-i c = search plains
-
-pub loop-i-smaller : goal.loop-i-smaller
-loop-i-smaller c = search plains
 
 pub loop-i-preserved : goal.loop-i-preserved
 loop-i-preserved c = search plains

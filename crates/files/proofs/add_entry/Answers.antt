@@ -1,20 +1,10 @@
-use Rattle.files.proofs.Adds.{adds}
+use Rattle.outcome.proofs.Outcome.{passed}
+use Rattle.files.proofs.Adds.{add_refused, adds}
 use Rattle.files.proofs.add_entry.Goals as goal
 
-pub returns-then-t-ne0 : goal.returns-then-t-ne0
-returns-then-t-ne0 c = search adds
-
-pub byte_at-requires : goal.byte_at-requires
-byte_at-requires c = search adds
-
-pub valid_file-requires : goal.valid_file-requires
-valid_file-requires c = search adds
-
-pub add_live-requires : goal.add_live-requires
-add_live-requires c = search adds
-
-pub returns-then-valid_file : goal.returns-then-valid_file
-returns-then-valid_file c = search adds
+pub returns-in_err-thread : goal.returns-in_err-thread
+returns-in_err-thread c =
+    add_refused _ _ _ _ _ _ _ c.byte_at.ensures c.valid_file.ensures (search adds) _ c.entry_list-list.ensures _ _ (passed c.from_residual.ensures.1) c.in_err-thread.ensures
 
 pub returns : goal.returns
-returns c = search adds
+returns c = search (adds, c.in_ok-thread.ensures)

@@ -1,11 +1,20 @@
-use Rattle.files.proofs.Adds.{pagings}
+use Rattle.std.proofs.Common.{arith}
+use Rattle.outcome.proofs.Outcome.{passed}
+use Rattle.files.proofs.Adds.{adding_refused, addings}
 use Rattle.files.proofs.add_page.Goals as goal
 
-pub add_link-requires : goal.add_link-requires
-add_link-requires c = search pagings
+pub loop-i-init : goal.loop-i-init
+loop-i-init c = search addings
 
-pub add_entries-requires : goal.add_entries-requires
-add_entries-requires c = search pagings
+pub add_entry-requires : goal.add_entry-requires
+add_entry-requires c = search addings
+
+pub returns-in_err-t : goal.returns-in_err-t
+returns-in_err-t c =
+    adding_refused _ _ _ _ _ _ _ c.loop-i.invariant (omega arith) _ c.entry_start.ensures.is _ _ (passed c.from_residual.ensures.1) c.in_err-t.ensures
+
+pub loop-i-preserved : goal.loop-i-preserved
+loop-i-preserved c = search (addings, c.in_ok-t.ensures)
 
 pub returns : goal.returns
-returns c = search pagings
+returns c = search addings

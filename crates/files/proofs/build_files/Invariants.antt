@@ -1,9 +1,6 @@
+use Rattle.files.specs.Totals.{picked}
 use Rattle.files.proofs.Goes.{Going}
-use Prim.Native.Nat.{◌-◌}
 use Rattle.files.proofs.build_files.Given as goal
 
-abbrev pub invariant-loop-k : goal.invariant-loop-k
-invariant-loop-k l = Going l.per l.disk l.named l.number l.name l.initial.p l.most l.k l.t l.p
-
-abbrev pub decreases-loop-k : goal.decreases-loop-k
-decreases-loop-k l = l.most - l.k
+abbrev pub invariant-loop-turn : goal.invariant-loop-turn
+invariant-loop-turn l = Going l.per l.disk (picked l.wanted) l.initial.p l.most l._turn l.t l.p

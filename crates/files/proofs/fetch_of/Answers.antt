@@ -1,26 +1,15 @@
-use Rattle.files.proofs.Choices.{fetch_calls}
+use Rattle.outcome.proofs.Outcome.{passed}
+use Rattle.files.proofs.Choices.{fetch_refused, fetch_calls}
 use Rattle.files.proofs.fetch_of.Goals as goal
 
-pub go_through-t-requires : goal.go_through-t-requires
-go_through-t-requires c = search fetch_calls
-
-pub refused-requires : goal.refused-requires
-refused-requires c = search fetch_calls
-
-pub returns-then-t-ne0 : goal.returns-then-t-ne0
-returns-then-t-ne0 c = search fetch_calls
-
-pub refused-requires-then-not-c : goal.refused-requires-then-not-c
-refused-requires-then-not-c c = search fetch_calls
-
-pub returns-then-not-c : goal.returns-then-not-c
-returns-then-not-c c = search fetch_calls
+pub returns-in_err-t : goal.returns-in_err-t
+returns-in_err-t c = fetch_refused _ _ c.args.name _ _ _ (passed c.from_residual.ensures.1) c.in_err-t.ensures
 
 pub get_data-requires : goal.get_data-requires
-get_data-requires c = search fetch_calls
+get_data-requires c = search (fetch_calls, c.in_ok-t.ensures)
 
-pub shape_of-out : goal.shape_of-out
-shape_of-out c = search fetch_calls
+pub returns-in-None : goal.returns-in-None
+returns-in-None c = search (fetch_calls, c.in_ok-t.ensures)
 
-pub returns : goal.returns
-returns c = search fetch_calls
+pub returns-in-Some : goal.returns-in-Some
+returns-in-Some c = search (fetch_calls, c.in_ok-t.ensures)

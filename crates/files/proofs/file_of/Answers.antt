@@ -1,26 +1,15 @@
-use Rattle.files.proofs.Choices.{file_calls}
+use Rattle.outcome.proofs.Outcome.{passed}
+use Rattle.files.proofs.Choices.{file_refused, file_calls}
 use Rattle.files.proofs.file_of.Goals as goal
 
-pub go_through-t-requires : goal.go_through-t-requires
-go_through-t-requires c = search file_calls
-
-pub refused-requires : goal.refused-requires
-refused-requires c = search file_calls
-
-pub returns-then-t-ne0 : goal.returns-then-t-ne0
-returns-then-t-ne0 c = search file_calls
-
-pub accepted-requires : goal.accepted-requires
-accepted-requires c = search file_calls
-
-pub returns-then-not-c : goal.returns-then-not-c
-returns-then-not-c c = search file_calls
+pub returns-in_err-t : goal.returns-in_err-t
+returns-in_err-t c = file_refused _ _ _ _ _ _ (passed c.from_residual.ensures.1) c.in_err-t.ensures
 
 pub get_data-requires : goal.get_data-requires
-get_data-requires c = search file_calls
+get_data-requires c = search (file_calls, c.in_ok-t.ensures)
 
-pub shape_of-out : goal.shape_of-out
-shape_of-out c = search file_calls
+pub returns-in-None : goal.returns-in-None
+returns-in-None c = search (file_calls, c.in_ok-t.ensures)
 
-pub returns : goal.returns
-returns c = search file_calls
+pub returns-in-Some : goal.returns-in-Some
+returns-in-Some c = search (file_calls, c.in_ok-t.ensures)

@@ -1,26 +1,15 @@
-use Rattle.files.proofs.ListCalls.{list_calls}
+use Rattle.outcome.proofs.Outcome.{passed}
+use Rattle.files.proofs.ListCalls.{number_refused, list_calls}
 use Rattle.files.proofs.lists_of.Goals as goal
 
-pub go_through-t-requires : goal.go_through-t-requires
-go_through-t-requires c = search list_calls
-
-pub refused-requires : goal.refused-requires
-refused-requires c = search list_calls
-
-pub returns-then-t-ne0 : goal.returns-then-t-ne0
-returns-then-t-ne0 c = search list_calls
-
-pub accepted-requires : goal.accepted-requires
-accepted-requires c = search list_calls
-
-pub returns-then-not-c : goal.returns-then-not-c
-returns-then-not-c c = search list_calls
+pub returns-in_err-t : goal.returns-in_err-t
+returns-in_err-t c = number_refused _ _ _ _ _ _ (passed c.from_residual.ensures.1) c.in_err-t.ensures
 
 pub get_lists-requires : goal.get_lists-requires
-get_lists-requires c = search list_calls
+get_lists-requires c = search (list_calls, c.in_ok-t.ensures)
 
-pub shape_of-out : goal.shape_of-out
-shape_of-out c = search list_calls
+pub returns-in-None : goal.returns-in-None
+returns-in-None c = search (list_calls, c.in_ok-t.ensures)
 
-pub returns : goal.returns
-returns c = search list_calls
+pub returns-in-Some : goal.returns-in-Some
+returns-in-Some c = search (list_calls, c.in_ok-t.ensures)

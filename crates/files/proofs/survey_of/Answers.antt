@@ -1,17 +1,12 @@
-use Rattle.files.proofs.Calls.{surveys}
+use Rattle.outcome.proofs.Outcome.{passed}
+use Rattle.files.proofs.Calls.{survey_none, survey_read, survey_done}
 use Rattle.files.proofs.survey_of.Goals as goal
 
-pub go_through-t-requires : goal.go_through-t-requires
-go_through-t-requires c = search surveys
+pub returns-in_err-t : goal.returns-in_err-t
+returns-in_err-t c = survey_none _ _ _ _ _ (passed c.from_residual.ensures.1) c.in_err-t.ensures
 
-pub no_survey-requires : goal.no_survey-requires
-no_survey-requires c = search surveys
-
-pub returns-then-t-ne0 : goal.returns-then-t-ne0
-returns-then-t-ne0 c = search surveys
-
-pub table_of-v-requires : goal.table_of-v-requires
-table_of-v-requires c = search surveys
+pub returns-in_err-v : goal.returns-in_err-v
+returns-in_err-v c = survey_read _ _ _ _ c.in_ok-t.ensures _ _ (passed c.from_residual-in_err-v.ensures.1) c.in_err-v.ensures
 
 pub returns : goal.returns
-returns c = search surveys
+returns c = survey_done _ _ _ _ c.in_ok-t.ensures _ c.in_ok-v.ensures

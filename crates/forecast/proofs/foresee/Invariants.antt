@@ -1,10 +1,5 @@
 use Rattle.forecast.proofs.Tallies.{Foreseeing}
-use Prim.Native.Nat.{◌-◌}
-use lib.ListN.{length}
 use Rattle.forecast.proofs.foresee.Given as goal
 
 abbrev pub invariant-loop-i : goal.invariant-loop-i
 invariant-loop-i l = Foreseeing l.initial.table l.left l.lengths l.initial.numbers l.i l.s l.table l.numbers
-
-abbrev pub decreases-loop-i : goal.decreases-loop-i
-decreases-loop-i l = length l.lengths - l.i

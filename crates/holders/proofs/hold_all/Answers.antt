@@ -1,23 +1,9 @@
-use Rattle.holders.proofs.Tallies.{alls}
+use Rattle.outcome.proofs.Outcome.{passed}
+use Rattle.holders.proofs.Tallies.{all_refused, alls}
 use Rattle.holders.proofs.hold_all.Goals as goal
 
-pub table_refusal-number-requires : goal.table_refusal-number-requires
-table_refusal-number-requires c = search alls
-
-pub returns-then-number-ne0 : goal.returns-then-number-ne0
-returns-then-number-ne0 c = search alls
-
-pub hold-requires : goal.hold-requires
-hold-requires c = search alls
-
-pub first_page-requires : goal.first_page-requires
-first_page-requires c = search alls
-
-pub hold_pages-requires : goal.hold_pages-requires
-hold_pages-requires c = search alls
-
-pub shape_of-counts : goal.shape_of-counts
-shape_of-counts c = search alls
+pub returns-in_err-readable : goal.returns-in_err-readable
+returns-in_err-readable c = all_refused _ _ _ _ _ (passed c.from_residual.ensures.1) c.in_err-readable.ensures
 
 pub returns : goal.returns
-returns c = search alls
+returns c = search (alls, c.in_ok-readable.ensures)

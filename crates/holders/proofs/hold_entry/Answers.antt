@@ -1,26 +1,12 @@
-use Rattle.holders.proofs.Tallies.{entries}
+use Rattle.outcome.proofs.Outcome.{passed}
+use Rattle.holders.proofs.Tallies.{entry_refused, entries}
 use Rattle.holders.proofs.hold_entry.Goals as goal
 
-pub returns-then-refusal-ne0 : goal.returns-then-refusal-ne0
-returns-then-refusal-ne0 c = search entries
-
-pub byte_at-requires : goal.byte_at-requires
-byte_at-requires c = search entries
-
-pub valid_file-requires : goal.valid_file-requires
-valid_file-requires c = search entries
-
-pub entry_list-requires : goal.entry_list-requires
-entry_list-requires c = search entries
-
-pub hold_file-requires : goal.hold_file-requires
-hold_file-requires c = search entries
-
-pub shape_of-counts-then-valid_file : goal.shape_of-counts-then-valid_file
-shape_of-counts-then-valid_file c = search entries
+pub returns-in_err-before : goal.returns-in_err-before
+returns-in_err-before c = entry_refused _ _ _ _ _ _ _ (passed c.from_residual.ensures.1) c.in_err-before.was
 
 pub returns-then-valid_file : goal.returns-then-valid_file
-returns-then-valid_file c = search entries
+returns-then-valid_file c = search (entries, c.in_ok-before.was)
 
 pub returns : goal.returns
-returns c = search entries
+returns c = search (entries, c.in_ok-before.was)

@@ -1,9 +1,5 @@
 use Rattle.holders.proofs.Tallies.{Paging}
-use Prim.Native.Nat.{◌-◌}
 use Rattle.holders.proofs.hold_pages.Given as goal
 
-abbrev pub invariant-loop-k : goal.invariant-loop-k
-invariant-loop-k l = Paging l.per l.disk l.initial.p l.initial.counts l.most l.k l.r l.counts l.p
-
-abbrev pub decreases-loop-k : goal.decreases-loop-k
-decreases-loop-k l = l.most - l.k
+abbrev pub invariant-loop-turn : goal.invariant-loop-turn
+invariant-loop-turn l = Paging l.per l.disk l.initial.p l.initial.counts l.most l._turn l.r l.counts l.p

@@ -1,17 +1,8 @@
-use Rattle.host.proofs.Numbers.{opening}
+use Rattle.host.proofs.Told.{puts_told}
+use Rattle.host.proofs.Numbers.{step_is}
 use Rattle.host.proofs.dos33_archive_step.Goals as goal
 
-pub block_number-requires : goal.block_number-requires
-block_number-requires c = search opening
-
-pub entry_from-e-requires : goal.entry_from-e-requires
-entry_from-e-requires c = search opening
-
-pub put_entry-requires : goal.put_entry-requires
-put_entry-requires c = search opening
-
-pub shape_of-fields : goal.shape_of-fields
-shape_of-fields c = search opening
-
 pub returns : goal.returns
-returns c = search opening
+returns c =
+    rw (step_is c.args.archive.now c.args.block c.block_number.result c.entry_from-found.result c.entry_values.result c.block_number.ensures c.entry_from-found.ensures c.entry_values.ensures) at
+    (puts_told _ _ _ _ _ c.put_fields.ensures c.number_of.ensures)

@@ -1,9 +1,5 @@
 use Rattle.nibblize.proofs.Writing.{Writing}
-use Prim.Native.Nat.{◌-◌}
 use Rattle.nibblize.proofs.put_blocks.Given as goal
 
 abbrev pub invariant-loop-k : goal.invariant-loop-k
 invariant-loop-k l = Writing l.volume l.disk l.initial.out l.out l.k
-
-abbrev pub decreases-loop-k : goal.decreases-loop-k
-decreases-loop-k l = 560 - l.k

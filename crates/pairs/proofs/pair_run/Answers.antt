@@ -5,14 +5,12 @@ use Rattle.pairs.proofs.Storing.{stored_none}
 use Rattle.pairs.proofs.pair_run.Goals as goal
 
 pub loop-i-init : goal.loop-i-init
-loop-i-init c = record { within = omega arith; is = stored_none _ _ }
+loop-i-init c = stored_none _ _
 
 pub loop-i-preserved : goal.loop-i-preserved
-loop-i-preserved c = record {
-  within = omega arith;
-  is = stored_pair c.args.disk.now (place c.args.track c.args.sector) c.args.run.now c.loop-i.i c.loop-i.run c.run_answer-answer.result c.run_answer-answer.ensures c.loop-i.invariant.is c.pair_at.result c.loop-i-test.true c.pair_at.ensures;
-}
+loop-i-preserved c =
+    stored_pair c.args.disk.now (place c.args.track c.args.sector) c.args.run.now c.loop-i.i c.in_ok-n.n c.loop-i.run c.in_ok-n.ensures c.loop-i.invariant c.pair_at.result c.loop-i-test.true c.pair_at.ensures
 
 pub returns : goal.returns
 returns c =
-    stored_run c.args.disk.now (place c.args.track c.args.sector) c.args.run.now c.loop-i.i c.loop-i.run c.run_answer-answer.result c.run_answer-answer.ensures c.loop-i.invariant.is c.loop-i-test.false c.loop-i.invariant.within
+    stored_run c.args.disk.now (place c.args.track c.args.sector) c.args.run.now c.loop-i.i c.in_ok-n.n c.loop-i.run c.in_ok-n.ensures c.loop-i.invariant (omega (arith, c.loop-i-test.false, c.loop-i.auto.i-end))

@@ -4,26 +4,14 @@ use Rattle.reader.proofs.sound_entry.Goals as goal
 pub returns-then-s-lt256 : goal.returns-then-s-lt256
 returns-then-s-lt256 c = search blocks
 
-pub allowed_entry-requires : goal.allowed_entry-requires
-allowed_entry-requires c = search blocks
-
 pub returns-then-not-allowed_entry : goal.returns-then-not-allowed_entry
 returns-then-not-allowed_entry c = search blocks
-
-pub links_due-requires : goal.links_due-requires
-links_due-requires c = search blocks
 
 pub returns-then-not-links_due : goal.returns-then-not-links_due
 returns-then-not-links_due c = search blocks
 
-pub name_due-requires : goal.name_due-requires
-name_due-requires c = search blocks
-
 pub returns-then-not-name_due : goal.returns-then-not-name_due
 returns-then-not-name_due c = search blocks
-
-pub blank_entry-requires : goal.blank_entry-requires
-blank_entry-requires c = search blocks
 
 pub returns : goal.returns
 returns c = search blocks

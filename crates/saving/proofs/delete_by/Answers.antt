@@ -1,29 +1,18 @@
-use Rattle.saving.proofs.Calls.{deletes}
+use Rattle.outcome.proofs.Outcome.{passed}
+use Rattle.saving.proofs.Calls.{delete_refused, deletes}
 use Rattle.saving.proofs.delete_by.Goals as goal
 
-pub name_refusal-number-requires : goal.name_refusal-number-requires
-name_refusal-number-requires c = search deletes
+pub returns-in_err-name_allowed : goal.returns-in_err-name_allowed
+returns-in_err-name_allowed c = delete_refused _ _ _ _ _ (passed c.from_residual.ensures.1) c.in_err-name_allowed.ensures
 
-pub shape_of-disk-then-number-ne0 : goal.shape_of-disk-then-number-ne0
-shape_of-disk-then-number-ne0 c = search deletes
+pub look-requires : goal.look-requires
+look-requires c = search (deletes, c.in_ok-name_allowed.ensures)
 
-pub returns-then-number-ne0 : goal.returns-then-number-ne0
-returns-then-number-ne0 c = search deletes
-
-pub look-s-requires : goal.look-s-requires
-look-s-requires c = search deletes
-
-pub shape_of-disk-then-not-s : goal.shape_of-disk-then-not-s
-shape_of-disk-then-not-s c = search deletes
-
-pub returns-then-not-s : goal.returns-then-not-s
-returns-then-not-s c = search deletes
+pub returns-in-None : goal.returns-in-None
+returns-in-None c = search (deletes, c.in_ok-name_allowed.ensures)
 
 pub erase-requires : goal.erase-requires
-erase-requires c = search deletes
+erase-requires c = search (deletes, c.in_ok-name_allowed.ensures)
 
-pub shape_of-disk : goal.shape_of-disk
-shape_of-disk c = search deletes
-
-pub returns : goal.returns
-returns c = search deletes
+pub returns-in-Some : goal.returns-in-Some
+returns-in-Some c = search (deletes, c.in_ok-name_allowed.ensures)

@@ -1,9 +1,5 @@
 use Rattle.saving.proofs.Freeing.{Walking}
-use Prim.Native.Nat.{◌-◌}
 use Rattle.saving.proofs.free_lists.Given as goal
 
-abbrev pub invariant-loop-k : goal.invariant-loop-k
-invariant-loop-k l = Walking l.disk l.initial.p l.initial.table l.most l.k l.table l.p
-
-abbrev pub decreases-loop-k : goal.decreases-loop-k
-decreases-loop-k l = l.most - l.k
+abbrev pub invariant-loop-turn : goal.invariant-loop-turn
+invariant-loop-turn l = Walking l.disk l.initial.p l.initial.table l.most l._turn l.table l.p

@@ -1,9 +1,5 @@
 use Rattle.saving.proofs.Freeing.{Freeing}
-use Prim.Native.Nat.{◌-◌}
 use Rattle.saving.proofs.free_pairs.Given as goal
 
 abbrev pub invariant-loop-i : goal.invariant-loop-i
 invariant-loop-i l = Freeing l.disk l.p l.initial.table l.i l.table
-
-abbrev pub decreases-loop-i : goal.decreases-loop-i
-decreases-loop-i l = 122 - l.i

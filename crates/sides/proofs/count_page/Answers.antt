@@ -4,21 +4,6 @@ use Rattle.sides.proofs.count_page.Goals as goal
 pub loop-i-init : goal.loop-i-init
 loop-i-init c = search linings
 
-pub entry_start-requires : goal.entry_start-requires
-entry_start-requires c = search linings
-
-pub count_line-many-requires : goal.count_line-many-requires
-count_line-many-requires c = search linings
-
-pub overflow_add-many : goal.overflow_add-many
-overflow_add-many c = search linings
-
-pub overflow_step-i : goal.overflow_step-i
-overflow_step-i c = search linings
-
-pub loop-i-smaller : goal.loop-i-smaller
-loop-i-smaller c = search linings
-
 pub loop-i-preserved : goal.loop-i-preserved
 loop-i-preserved c = search linings
 

@@ -1,20 +1,15 @@
-use Rattle.stream.proofs.Images.{ahead}
+use Rattle.outcome.proofs.Outcome.{passed}
+use Rattle.stream.proofs.Images.{ahead, ahead_bad}
 use Rattle.stream.proofs.address_refusal.Goals as goal
 
-pub loop-ed-init : goal.loop-ed-init
-loop-ed-init c = search ahead
+pub returns-in_err-p : goal.returns-in_err-p
+returns-in_err-p c = ahead_bad _ _ _ _ c.loop-p.invariant _ _ (passed c.from_residual.ensures.1) c.in_err-p.ensures
 
-pub parse_nib_sector-p-requires : goal.parse_nib_sector-p-requires
-parse_nib_sector-p-requires c = search ahead
+pub loop-p-smaller : goal.loop-p-smaller
+loop-p-smaller c = search ahead
 
-pub returns-then-p-ne0 : goal.returns-then-p-ne0
-returns-then-p-ne0 c = search ahead
+pub loop-p-preserved : goal.loop-p-preserved
+loop-p-preserved c = search ahead
 
-pub returns-then-p-eq0 : goal.returns-then-p-eq0
-returns-then-p-eq0 c = search ahead
-
-pub loop-ed-smaller : goal.loop-ed-smaller
-loop-ed-smaller c = search ahead
-
-pub loop-ed-preserved : goal.loop-ed-preserved
-loop-ed-preserved c = search ahead
+pub returns : goal.returns
+returns c = search ahead

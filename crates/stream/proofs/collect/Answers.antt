@@ -1,71 +1,36 @@
-use Rattle.stream.proofs.Images.{collecting}
+use Rattle.outcome.proofs.Outcome.{passed}
+use Rattle.stream.proofs.Images.{collecting, collect_first, collect_bad, collect_sum}
 use Rattle.stream.proofs.collect.Goals as goal
 
-pub parse_nib_sector-first-requires : goal.parse_nib_sector-first-requires
-parse_nib_sector-first-requires c = search collecting
+pub returns-in_err-first : goal.returns-in_err-first
+returns-in_err-first c = collect_first _ _ _ _ _ (passed c.from_residual.ensures.1) c.in_err-first.ensures
 
-pub dos_sectors-order-requires : goal.dos_sectors-order-requires
-dos_sectors-order-requires c = search collecting
+pub returns-in_default : goal.returns-in_default
+returns-in_default c = search collecting
 
-pub loop-ed-init : goal.loop-ed-init
-loop-ed-init c = search collecting
+pub loop-p-init : goal.loop-p-init
+loop-p-init c = search collecting
 
-pub parse_nib_sector-p-requires : goal.parse_nib_sector-p-requires
-parse_nib_sector-p-requires c = search collecting
+pub returns-in_err-p : goal.returns-in_err-p
+returns-in_err-p c = collect_bad _ _ _ _ _ _ _ _ c.loop-p.invariant _ _ (passed c.from_residual-in_err-p.ensures.1) c.in_err-p.ensures
 
-pub shape_of-disk-then-p-ne0 : goal.shape_of-disk-then-p-ne0
-shape_of-disk-then-p-ne0 c = search collecting
-
-pub returns-then-p-ne0 : goal.returns-then-p-ne0
-returns-then-p-ne0 c = search collecting
-
-pub number_of-requires : goal.number_of-requires
-number_of-requires c = search collecting
-
-pub shape_of-disk-then-p-eq0 : goal.shape_of-disk-then-p-eq0
-shape_of-disk-then-p-eq0 c = search collecting
-
-pub returns-then-p-eq0 : goal.returns-then-p-eq0
-returns-then-p-eq0 c = search collecting
-
-pub is_stranger-requires : goal.is_stranger-requires
-is_stranger-requires c = search collecting
-
-pub stranger_met-requires : goal.stranger_met-requires
-stranger_met-requires c = search collecting
-
-pub shape_of-disk-then-is_stranger : goal.shape_of-disk-then-is_stranger
-shape_of-disk-then-is_stranger c = search collecting
+pub returns-in_err-address_refusal : goal.returns-in_err-address_refusal
+returns-in_err-address_refusal c = let e = rw c.in-Some-2.is at c.in_ok-p.ensures in collect_sum _ _ _ _ _ _ _ _ c.loop-p.invariant _ e _ _ (passed c.from_residual-in_err-address_refusal.ensures.1) c.in_err-address_refusal.ensures
 
 pub returns-then-is_stranger : goal.returns-then-is_stranger
-returns-then-is_stranger c = search collecting
+returns-then-is_stranger c = let e = rw c.in-Some-2.is at c.in_ok-p.ensures in search (collecting, e, c.in_ok-address_refusal.ensures)
 
 pub sector_number-k-requires : goal.sector_number-k-requires
-sector_number-k-requires c = search collecting
-
-pub offset_bounds-at-k : goal.offset_bounds-at-k
-offset_bounds-at-k c = search collecting
-
-pub bounds-at-k : goal.bounds-at-k
-bounds-at-k c = search collecting
-
-pub overflow_mul-k : goal.overflow_mul-k
-overflow_mul-k c = search collecting
+sector_number-k-requires c = let e = rw c.in-Some-2.is at c.in_ok-p.ensures in search (collecting, e)
 
 pub decode_first-good-requires : goal.decode_first-good-requires
-decode_first-good-requires c = search collecting
+decode_first-good-requires c = let e = rw c.in-Some-2.is at c.in_ok-p.ensures in search (collecting, e)
 
-pub first_place-requires : goal.first_place-requires
-first_place-requires c = search collecting
+pub loop-p-smaller : goal.loop-p-smaller
+loop-p-smaller c = let e = rw c.in-Some-2.is at c.in_ok-p.ensures in search (collecting, e)
 
-pub offset_bounds-at-k-in-loop-ed : goal.offset_bounds-at-k-in-loop-ed
-offset_bounds-at-k-in-loop-ed c = search collecting
+pub loop-p-preserved : goal.loop-p-preserved
+loop-p-preserved c = let e = rw c.in-Some-2.is at c.in_ok-p.ensures in search (collecting, e)
 
-pub bounds-at-k-in-loop-ed : goal.bounds-at-k-in-loop-ed
-bounds-at-k-in-loop-ed c = search collecting
-
-pub loop-ed-smaller : goal.loop-ed-smaller
-loop-ed-smaller c = search collecting
-
-pub loop-ed-preserved : goal.loop-ed-preserved
-loop-ed-preserved c = search collecting
+pub returns : goal.returns
+returns c = let e = rw c.in_default-2.is at c.in_ok-p.ensures in search (collecting, e)

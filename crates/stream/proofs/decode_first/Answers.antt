@@ -1,17 +1,8 @@
 use Rattle.stream.proofs.Images.{counted}
 use Rattle.stream.proofs.decode_first.Goals as goal
 
-pub put_data-requires : goal.put_data-requires
-put_data-requires c = search counted
-
-pub shape_of-disk-then-put_data-eq0 : goal.shape_of-disk-then-put_data-eq0
-shape_of-disk-then-put_data-eq0 c = search counted
-
 pub returns-then-put_data-eq0 : goal.returns-then-put_data-eq0
 returns-then-put_data-eq0 c = search counted
-
-pub shape_of-disk-then-old-eq0 : goal.shape_of-disk-then-old-eq0
-shape_of-disk-then-old-eq0 c = search counted
 
 pub returns-then-old-eq0 : goal.returns-then-old-eq0
 returns-then-old-eq0 c = search counted

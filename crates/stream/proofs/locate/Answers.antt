@@ -1,32 +1,21 @@
-use Rattle.stream.proofs.Keyed.{looking}
+use Rattle.outcome.proofs.Outcome.{passed}
+use Rattle.stream.proofs.Keyed.{looking, looking_bad}
 use Rattle.stream.proofs.locate.Goals as goal
 
-pub loop-ed-init : goal.loop-ed-init
-loop-ed-init c = search looking
+pub loop-p-init : goal.loop-p-init
+loop-p-init c = search looking
 
-pub parse_nib_sector-p-requires : goal.parse_nib_sector-p-requires
-parse_nib_sector-p-requires c = search looking
-
-pub returns-then-p-ne0 : goal.returns-then-p-ne0
-returns-then-p-ne0 c = search looking
-
-pub verdict_of-requires : goal.verdict_of-requires
-verdict_of-requires c = search looking
-
-pub returns-then-p-eq0 : goal.returns-then-p-eq0
-returns-then-p-eq0 c = search looking
+pub returns-in_err-p : goal.returns-in_err-p
+returns-in_err-p c = looking_bad _ _ _ _ _ _ _ _ c.loop-p.invariant _ _ (passed c.from_residual.ensures.1) c.in_err-p.ensures
 
 pub sums_right-good-requires : goal.sums_right-good-requires
 sums_right-good-requires c = search looking
 
-pub has_key-requires : goal.has_key-requires
-has_key-requires c = search looking
+pub loop-p-smaller : goal.loop-p-smaller
+loop-p-smaller c = search looking
 
-pub first_place-at-requires : goal.first_place-at-requires
-first_place-at-requires c = search looking
+pub loop-p-preserved : goal.loop-p-preserved
+loop-p-preserved c = search looking
 
-pub loop-ed-smaller : goal.loop-ed-smaller
-loop-ed-smaller c = search looking
-
-pub loop-ed-preserved : goal.loop-ed-preserved
-loop-ed-preserved c = search looking
+pub returns : goal.returns
+returns c = let e = rw c.in_default.is at c.in_ok-p.ensures in search (looking, e)

@@ -1,17 +1,11 @@
 use Rattle.stream.proofs.Keyed.{repeats}
 use Rattle.stream.proofs.repeated.Goals as goal
 
-pub loop-i-init : goal.loop-i-init
-loop-i-init c = search repeats
+pub returns-in_default : goal.returns-in_default
+returns-in_default c = search repeats
 
-pub parse_nib_sector-q-requires : goal.parse_nib_sector-q-requires
-parse_nib_sector-q-requires c = search repeats
-
-pub returns-then-q-eq0 : goal.returns-then-q-eq0
-returns-then-q-eq0 c = search repeats
-
-pub has_key-requires : goal.has_key-requires
-has_key-requires c = search repeats
+pub returns-in_default-2 : goal.returns-in_default-2
+returns-in_default-2 c = let e = rw c.in_default.is at c.parse_nib_sector.ensures in search (repeats, e)
 
 pub returns-then-has_key : goal.returns-then-has_key
 returns-then-has_key c = search repeats

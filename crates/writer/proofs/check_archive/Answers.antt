@@ -1,35 +1,21 @@
-use Rattle.writer.proofs.Calls.{calls}
+use Rattle.outcome.proofs.Outcome.{passed}
+use Rattle.writer.proofs.Calls.{check_refused, calls}
 use Rattle.writer.proofs.check_archive.Goals as goal
 
-pub survey-s-requires : goal.survey-s-requires
-survey-s-requires c = search calls
-
-pub returns-then-s-ne0 : goal.returns-then-s-ne0
-returns-then-s-ne0 c = search calls
+pub returns-in_err-s : goal.returns-in_err-s
+returns-in_err-s c = rw (passed c.from_residual.ensures.1) (check_refused _ _ c.in_err-s.field-0.0 c.in_err-s.ensures _)
 
 pub returns-then-s-gt4096 : goal.returns-then-s-gt4096
-returns-then-s-gt4096 c = search calls
-
-pub overflow_cast-total : goal.overflow_cast-total
-overflow_cast-total c = search calls
-
-pub overflow_cast-total-2 : goal.overflow_cast-total-2
-overflow_cast-total-2 c = search calls
-
-pub overflow_mul-total : goal.overflow_mul-total
-overflow_mul-total c = search calls
+returns-then-s-gt4096 c = search (calls, c.in_ok-s.ensures)
 
 pub returns-then-archive-total : goal.returns-then-archive-total
-returns-then-archive-total c = search calls
-
-pub slice_bounds-emit_all-end : goal.slice_bounds-emit_all-end
-slice_bounds-emit_all-end c = search calls
+returns-then-archive-total c = search (calls, c.in_ok-s.ensures)
 
 pub emit_all-m-requires : goal.emit_all-m-requires
-emit_all-m-requires c = search calls
+emit_all-m-requires c = search (calls, c.in_ok-s.ensures)
 
-pub returns-then-m : goal.returns-then-m
-returns-then-m c = search calls
+pub returns-then-not-m : goal.returns-then-not-m
+returns-then-not-m c = search (calls, c.in_ok-s.ensures)
 
 pub returns : goal.returns
-returns c = search calls
+returns c = search (calls, c.in_ok-s.ensures)

@@ -4,23 +4,11 @@ use Rattle.writer.proofs.emit_page.Goals as goal
 pub loop-i-init : goal.loop-i-init
 loop-i-init c = search pagings
 
-pub entry_start-requires : goal.entry_start-requires
-entry_start-requires c = search pagings
-
 pub emit_entry-t-requires : goal.emit_entry-t-requires
 emit_entry-t-requires c = search pagings
 
-pub overflow_step-i : goal.overflow_step-i
-overflow_step-i c = search pagings
-
-pub loop-i-smaller : goal.loop-i-smaller
-loop-i-smaller c = search pagings
-
 pub loop-i-preserved : goal.loop-i-preserved
 loop-i-preserved c = search pagings
-
-pub shape_of-out : goal.shape_of-out
-shape_of-out c = search pagings
 
 pub returns : goal.returns
 returns c = search pagings

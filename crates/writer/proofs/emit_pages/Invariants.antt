@@ -1,9 +1,6 @@
+use Rattle.writer.specs.Passes.{writes, compared}
 use Rattle.writer.proofs.Pages.{Walking}
-use Prim.Native.Nat.{◌-◌}
 use Rattle.writer.proofs.emit_pages.Given as goal
 
-abbrev pub invariant-loop-k : goal.invariant-loop-k
-invariant-loop-k l = Walking l.write l.archive l.per l.disk l.total l.initial.p l.initial.t l.initial.out l.most l.k l.p l.t l.out
-
-abbrev pub decreases-loop-k : goal.decreases-loop-k
-decreases-loop-k l = l.most - l.k
+abbrev pub invariant-loop-turn : goal.invariant-loop-turn
+invariant-loop-turn l = Walking (writes l.job.target) (compared l.job.target) l.job.per l.job.disk.now l.job.total l.initial.p l.initial.t l.initial.out l.most l._turn l.p l.t l.out

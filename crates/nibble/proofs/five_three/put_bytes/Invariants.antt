@@ -1,9 +1,5 @@
 use Rattle.nibble.proofs.FiveThree.{Grouped}
-use Prim.Native.Nat.{◌-◌}
 use Rattle.nibble.proofs.five_three.put_bytes.Given as goal
 
 abbrev pub invariant-loop-i : goal.invariant-loop-i
 invariant-loop-i l = Grouped l.vals l.initial.out l.out l.i
-
-abbrev pub decreases-loop-i : goal.decreases-loop-i
-decreases-loop-i l = 51 - l.i

@@ -1,5 +1,0 @@
-use Rattle.nibble.proofs.Encode.{masked}
-use Rattle.nibble.proofs.evens.Goals as goal
-
-pub returns : goal.returns
-returns c = search masked
