@@ -21,12 +21,10 @@ use trial::{STDOUT_FILENO, handed_line, number, print, print_decimals, print_lin
 
 // The first 80 bytes that were handed over, and the byte behind all of them.
 fn handed_lines(text: &[u8], answer: Result<usize, Refusal>, space: &[u8]) {
-    trial::handed_lines(
-        text,
-        answer,
-        space,
-        |bytes| print_decimals(part(bytes, 0, 80)),
-    );
+    if let Some(bytes) = trial::handed(text, answer, space) {
+        print_decimals(part(bytes, 0, 80));
+        trial::behind(answer, space);
+    }
 }
 
 fn show_catalog(disk: &[u8], space: &mut [u8]) {
@@ -150,5 +148,7 @@ fn act(disk: &mut [u8], step: [u8; 6]) {
 
 fn main() {
     let mut disk = trial::disk();
-    trial::run_script(|step| act(&mut disk, step));
+    for step in trial::script_steps() {
+        act(&mut disk, step);
+    }
 }

@@ -258,5 +258,7 @@ fn act(disks: &mut [u8], lengths: &mut [u64], step: [u8; 6]) {
 fn main() {
     let mut disks = laying::disks();
     let mut lengths: [u64; 256] = filled(0);
-    trial::run_script(|step| act(&mut disks, &mut lengths, step));
+    for step in trial::script_steps() {
+        act(&mut disks, &mut lengths, step);
+    }
 }

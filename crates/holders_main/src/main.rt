@@ -56,5 +56,7 @@ fn act(disks: &mut [u8], step: [u8; 6]) {
 
 fn main() {
     let mut disks = laying::disks();
-    trial::run_script(|step| act(&mut disks, step));
+    for step in trial::script_steps() {
+        act(&mut disks, step);
+    }
 }

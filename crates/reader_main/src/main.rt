@@ -148,5 +148,7 @@ fn main() {
     // 4,097 blocks.
     let mut bytes: [u8; 1048832] = trial::filled(0);
     let mut used: usize = 0;
-    trial::run_script(|step| used = act(&mut bytes, used, step));
+    for step in trial::script_steps() {
+        used = act(&mut bytes, used, step);
+    }
 }

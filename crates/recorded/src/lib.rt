@@ -9,6 +9,7 @@
 // All is proved to end and never to trap, and no more than that.
 #![tactic(auto)]
 
+ghost use Rattle.std.specs.Iterator.{at_most};
 ghost use Rattle.std.specs.Prelude.{◌<◌};
 
 use lists::{byte_at, fill_at, part, word_at};
@@ -135,33 +136,49 @@ fn behind(script: &[u8], end: usize) -> usize {
     script.len()
 }
 
-// Takes the lines of a script one by one, 10,000 at most.
-fn each_line<F: FnMut(&[u8])>(script: &[u8], mut act: F)
-    requires { F.IsAlwaysCallable act }
-{
-    let mut at: usize = 0;
-    for _line in 0..10000u32 {
-        if script.len() <= at {
-            return;
-        }
-        let end = line_end(script, at);
-        act(line_from(script, at, end));
-        at = behind(script, end);
-    }
-    print(b"too many lines\n");
+// The lines of a script that are still to come, 10,000 at most; that there are more is told.
+#[derive(Drop)]
+pub struct Lines<'a> {
+    script: &'a [u8],
+    at: usize,
+    left: u32,
 }
 
-// Those of the script on standard input, which has 65,535 bytes at most.
-pub fn run_script<F: FnMut(&[u8])>(act: F)
-    requires { F.IsAlwaysCallable act }
-{
-    let mut script = io::large_buffer();
-    let n = io::read_full(STDIN_FILENO, &mut script);
-    if n < 65536 {
-        each_line(part(&script, 0, n as usize), act);
-        return;
+impl<'a> Iterator for Lines<'a> {
+    type Item = &'a [u8];
+
+    ghost remaining = { λ s. at_most s.left };
+
+    fn next(&mut self) -> Option<&'a [u8]> {
+        if self.left == 0 {
+            print(b"too many lines\n");
+            return None;
+        }
+        if self.script.len() <= self.at {
+            return None;
+        }
+        self.left -= 1;
+        let script = self.script;
+        let at = self.at;
+        let end = line_end(script, at);
+        self.at = behind(script, end);
+        Some(line_from(script, at, end))
     }
-    print(b"too long a script\n");
+}
+
+// Those of the script on standard input, read into `space`, which has 65,536 bytes: one more than a script may have.
+pub fn script_lines<'a>(space: &'a mut [u8]) -> Lines<'a> {
+    let n = io::read_full(STDIN_FILENO, space);
+    let mut length = n as usize;
+    if 65536 <= n {
+        print(b"too long a script\n");
+        length = 0;
+    }
+    Lines {
+        script: part(space, 0, length),
+        at: 0,
+        left: 10000,
+    }
 }
 
 // The number of an answer's refusal, 0 for none.

@@ -14,7 +14,10 @@ use trial::{number, place, print, print_hex, shown};
 
 // The first 256 bytes that were handed over, and the byte behind all of them.
 fn handed_lines(text: &[u8], answer: Result<usize, Refusal>, space: &[u8]) {
-    trial::handed_lines(text, answer, space, |bytes| print_hex(part(bytes, 0, 256)));
+    if let Some(bytes) = trial::handed(text, answer, space) {
+        print_hex(part(bytes, 0, 256));
+        trial::behind(answer, space);
+    }
 }
 
 fn show_entry(input: &[u8], space: &mut [u8], n: u8) {
@@ -83,5 +86,7 @@ fn act(input: &mut [u8], step: [u8; 6]) {
 fn main() {
     // One byte more than `format_from_data` looks at, and some.
     let mut input: [u8; 69700] = trial::filled(0);
-    trial::run_script(|step| act(&mut input, step));
+    for step in trial::script_steps() {
+        act(&mut input, step);
+    }
 }

@@ -94,5 +94,8 @@ fn main() {
     let mut entries: [u8; 37000] = trial::filled(0);
     let mut space = trial::disk();
     let mut used: usize = 0;
-    recorded::run_script(|line| used = act(line, &mut input, used, &mut entries, &mut space));
+    let mut script = io::large_buffer();
+    for line in recorded::script_lines(&mut script) {
+        used = act(line, &mut input, used, &mut entries, &mut space);
+    }
 }

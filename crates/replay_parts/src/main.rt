@@ -111,5 +111,8 @@ fn main() {
     let mut input = trial::disk();
     let mut space = trial::disk();
     let mut used: usize = 0;
-    recorded::run_script(|line| used = act(line, &mut input, used, &mut space));
+    let mut script = io::large_buffer();
+    for line in recorded::script_lines(&mut script) {
+        used = act(line, &mut input, used, &mut space);
+    }
 }

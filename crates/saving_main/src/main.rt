@@ -375,8 +375,8 @@ fn main() {
     let mut name: [u8; 64] = filled(0);
     let mut data: [u8; LONGEST] = filled(0);
     let mut who: Option<Asker> = None;
-    trial::run_script(|step| {
+    for step in trial::script_steps() {
         who = who_asks(who, step);
         act(&mut disks, &mut name, &mut data, who, step);
-    });
+    }
 }

@@ -191,5 +191,7 @@ fn main() {
     let mut disks = laying::disks();
     let mut stream: [u8; 1048576] = filled(0);
     let mut used: usize = 0;
-    trial::run_script(|step| used = act(&mut disks, &mut stream, used, step));
+    for step in trial::script_steps() {
+        used = act(&mut disks, &mut stream, used, step);
+    }
 }

@@ -121,5 +121,7 @@ fn main() {
     let mut disks = laying::disks();
     let mut hand: [u8; ARCHIVE] = filled(0);
     let mut size: usize = 0;
-    trial::run_script(|step| size = act(&mut disks, &mut hand, size, step));
+    for step in trial::script_steps() {
+        size = act(&mut disks, &mut hand, size, step);
+    }
 }

@@ -1,8 +1,9 @@
-// What the trial programs share: the steps of a script and its run, numbers made of bytes, pokes, and what is printed.
+// What the trial programs share: the steps of a script, numbers made of bytes, pokes, and what is printed.
 // It is proved to end and never to trap, and beyond that only the ranges that the programs need.
 #![tactic(auto)]
 
 ghost use Rattle.std.specs.Prelude.{◌<◌};
+ghost use Rattle.std.specs.Iterator.{at_most};
 
 use lists::{byte_at, part};
 use outcome::Refusal;
@@ -52,15 +53,28 @@ pub fn next_step() -> Option<[u8; 6]> {
     None
 }
 
-// Takes the steps of the script one by one, 100,000 at most.
-pub fn run_script<F: FnMut([u8; 6])>(mut act: F)
-    requires { F.IsAlwaysCallable act }
-{
-    for _turn in 0..100000u32 {
-        let Some(step) = next_step() else {
-            return;
-        };
-        act(step);
+// The steps of the script that are still to come, 100,000 at most.
+#[derive(Drop)]
+pub struct Steps {
+    left: u32,
+}
+
+// The steps of the script on standard input.
+pub fn script_steps() -> Steps {
+    Steps { left: 100000 }
+}
+
+impl Iterator for Steps {
+    type Item = [u8; 6];
+
+    ghost remaining = { λ s. at_most s.left };
+
+    fn next(&mut self) -> Option<[u8; 6]> {
+        if self.left == 0 {
+            return None;
+        }
+        self.left -= 1;
+        next_step()
     }
 }
 
@@ -221,23 +235,23 @@ pub fn bytes_line(answer: Result<usize, Refusal>, bytes: &[u8]) {
     print_line(b", sum", sum_of(written));
 }
 
-// What was handed over, as `show` prints it, and the byte behind all of it.
-pub fn handed_lines<F: FnOnce(&[u8])>(
+// Tells what was handed over, and answers its bytes, which are to be shown next; none where nothing changed, which is told.
+pub fn handed<'a>(
     text: &[u8],
     answer: Result<usize, Refusal>,
-    space: &[u8],
-    show: F,
-)
-    requires { F.IsAlwaysCallable show }
-{
+    space: &'a [u8],
+) -> Option<&'a [u8]> {
     handed_line(text, answer);
     if untouched(space) {
         print(b"  nothing changed\n");
-        return;
+        return None;
     }
     print(b"  bytes");
-    let length = length_of(answer);
-    show(part(space, 0, length));
+    Some(part(space, 0, length_of(answer)))
+}
+
+// Ends the line of the bytes, and shows the byte behind all of them.
+pub fn behind(answer: Result<usize, Refusal>, space: &[u8]) {
     print(b"\n");
-    print_line(b"  behind", byte_at(space, length) as u64);
+    print_line(b"  behind", byte_at(space, length_of(answer)) as u64);
 }

@@ -76,5 +76,7 @@ fn act(disk: &mut [u8], step: [u8; 6]) {
 
 fn main() {
     let mut disk = trial::disk();
-    trial::run_script(|step| act(&mut disk, step));
+    for step in trial::script_steps() {
+        act(&mut disk, step);
+    }
 }

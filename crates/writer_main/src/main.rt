@@ -145,5 +145,7 @@ fn main() {
     let mut disk = trial::disk();
     let mut hand: [u8; ROOM] = filled(0);
     let mut size: usize = 0;
-    trial::run_script(|step| size = act(&mut disk, &mut hand, size, step));
+    for step in trial::script_steps() {
+        size = act(&mut disk, &mut hand, size, step);
+    }
 }
