@@ -7,7 +7,7 @@ use native.Mathlib.Nat.{zero-add}
 use native.Mathlib.Numerals.{add-one}
 use native.Mathlib.Omega.{arith}
 use lib.ListN.{length, get_or, take, drop, length-append}
-use lib.Seq.{take_all, take-suc}
+use lib.Seq.{take_all, take-suc, take-take}
 use lib.Dec.{eqb}
 use borrow.Author.Tests.{lt-ltb, le-ltb, eq-eqb, ne_eqb, not-true, not-false}
 use borrow.Author.Rules.{rules}
@@ -51,6 +51,10 @@ among_whole s k b e h = e ∙ ap (among 128) (take_all k s h)
 -- the bytes are those of the disk
 pub letters_of_lem : (d s : List ℕ) (i : ℕ) (b : Bool) → s ≡ take 30 (drop i d) → b ≡ among 128 s → b ≡ among 128 (take 30 (drop i d))
 letters_of_lem d s i b e h = h ∙ ap (among 128) e
+
+-- .. and of the 30 that there are
+pub letters_of_all : (d s name : List ℕ) (i : ℕ) (b : Bool) → s ≡ take 30 (drop i d) → name ≡ take 30 s → b ≡ among 128 name → b ≡ among 128 (take 30 (drop i d))
+letters_of_all d s name i b e q h = h ∙ ap (among 128) (q ∙ ap (take 30) e ∙ take-take 30 30 (drop i d) (omega arith))
 
 pub ruleset letters = (among_next, among_whole, letters_of_lem, rules)
 

@@ -94,7 +94,7 @@ pub fn entry_start(per: u8, p: Place, i: u8) -> usize
     sector_start(per, p) + (11 + 35 * (i as usize))
 }
 
-// 80h stands among the bytes of a name. All are looked at: with 30 of them the loop becomes vector code.
+// 80h stands among the bytes of a name. All are looked at: where it is known that they are 30, the loop becomes vector code.
 fn bad_among(raw: &[u8]) -> bool
     ensures { result ≡ among 128 raw.now }
 {
@@ -109,7 +109,11 @@ fn bad_among(raw: &[u8]) -> bool
 pub fn bad_letter(disk: &[u8], i: usize) -> bool
     ensures { result ≡ among 128 (take 30 (drop i disk.now)) }
 {
-    bad_among(part(disk, i, 30))
+    let raw = part(disk, i, 30);
+    match raw.first_chunk::<30>() {
+        Some(name) => bad_among(name),
+        None => bad_among(raw),
+    }
 }
 
 // The entry from x on is not in use, or its name holds no 80h.

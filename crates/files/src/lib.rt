@@ -1,10 +1,10 @@
 // The files of a disk: track/sector lists, pairs, file bytes (catalog.rs).
 #![tactic(auto)]
 
-ghost use Rattle.std.specs.Prelude.{◌≡◌, ℕ, ◌+◌, ◌-◌, ◌*◌, ◌<◌, ◌≤◌, cond, eqb, take};
+ghost use Rattle.std.specs.Prelude.{◌≡◌, ℕ, ◌+◌, ◌-◌, ◌*◌, ◌<◌, ◌≤◌, true, cond, eqb, get_or, take};
 ghost use Rattle.outcome.specs.Outcome.{Hands, Gives, left_by};
 ghost use Rattle.catalog.specs.Listing.{Ready};
-ghost use Rattle.catalog.specs.Catalog.{shown, entry_from};
+ghost use Rattle.catalog.specs.Catalog.{shown, valid_file, entry_from};
 ghost use Rattle.disk.specs.Disk.{per_of, place, byte_of, bytes_of};
 ghost use Rattle.files.specs.Contents.{max_pairs, pair_at, pairs_of, whole_link, list_walk, pair_bytes};
 ghost use Rattle.lists.specs.Same.{same};
@@ -283,14 +283,12 @@ fn add_thread(
     }
 }
 
-// The totals with the entry from x on, where it is in use; 3, 4, 5 for its lists.
+// The totals with the entry from x on, which is in use; 3, 4, 5 for its lists.
 fn add_entry(disk: &[u8], per: u8, t: Totals, x: usize, wanted: Wanted) -> Result<Totals, Refusal>
-    requires { Within 100000 t }
+    requires counts { Within 100000 t }
+    requires used { valid_file (get_or disk.now x 0) ≡ true }
     ensures { Added per disk.now (picked wanted.entry) t x result }
 {
-    if !valid_file(byte_at(disk, x)) {
-        return Ok(t);
-    }
     let list = entry_list(disk, x);
     let kind = entry_type(disk, x);
     let thread = build_file(disk, per, list)?;
@@ -314,7 +312,11 @@ fn add_page(
         ..before
     };
     for i in 0..7u8 {
-        t = add_entry(disk, per, t, entry_start(per, p, i), wanted)?;
+        let x = entry_start(per, p, i);
+        // The totals are moved for an entry in use alone.
+        if valid_file(byte_at(disk, x)) {
+            t = add_entry(disk, per, t, x, wanted)?;
+        }
     }
     Ok(t)
 }

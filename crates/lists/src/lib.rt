@@ -39,6 +39,16 @@ pub fn part(s: &[u8], a: usize, n: usize) -> &[u8]
     &s[a..a + n]
 }
 
+// Puts all of src into dst from place at. `copy_from_slice` would ask whoever links the library for `memmove`.
+fn copy_within(src: &[u8], dst: &mut [u8], at: usize)
+    requires { at + length src.now ≤ length dst.old }
+    ensures { dst.new ≡ put at src.now dst.old }
+{
+    for k in 0..src.len() {
+        dst[at + k] = src[k];
+    }
+}
+
 // Puts all of src into dst from place at; where it does not fit, dst stays as it is.
 pub fn copy_at(src: &[u8], dst: &mut [u8], at: usize)
     ensures { dst.new ≡ placed at src.now dst.old }
@@ -49,7 +59,7 @@ pub fn copy_at(src: &[u8], dst: &mut [u8], at: usize)
     if dst.len() - at < src.len() {
         return;
     }
-    dst[at..at + src.len()].copy_from_slice(src);
+    copy_within(src, dst, at);
 }
 
 // Puts n times v into dst from place at; where they do not fit, dst stays as it is.

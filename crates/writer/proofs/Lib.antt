@@ -1,4 +1,5 @@
 pub mod Emits
+pub mod Stands
 pub mod Collects
 pub mod Pieces
 pub mod Heads

@@ -4,6 +4,7 @@
 ghost use Rattle.std.specs.Prelude.{◌≡◌, cond, ℕ, ◌+◌, ◌-◌, ◌*◌, ◌%◌, ◌<◌, ◌≤◌, min, eqb, length, get_or, take, drop};
 ghost use mathlib.Core.List.{List, ◌++◌, ◌∷◌, [], map, foldl};
 ghost use Rattle.lists.specs.Fill.{placed, below};
+ghost use Rattle.lists.specs.Same.{same};
 ghost use Rattle.disk.specs.Disk.{per_of, sectors};
 ghost use Rattle.catalog.specs.Catalog.{entry_from, entries_of, first_page};
 ghost use Rattle.files.specs.Copies.{cut_of, Copied, Roomy, Whole, CopiedAll, list_of, walk_of};
@@ -15,7 +16,7 @@ use archive::{entry_block, first_block};
 use catalog::{EntryHead, entry_head, entry_start, first_page, last_page, raw_name, valid_file};
 use disk::{Place, Sector, Track, chain_budget, link_of, sector_start, sectors_of};
 use files::{MAX_PAIRS, last_list, parse_track_sector_pair, survey};
-use lists::{byte_at, copy_at, fill_at, part, put_word, same, word_at};
+use lists::{byte_at, copy_at, fill_at, part, put_word, word_at};
 use outcome::Refusal;
 
 // What a pass does with a block: puts it into the lent space, or compares it with that block of an archive.
@@ -51,8 +52,29 @@ pub struct Mark {
     pub good: bool,
 }
 
+// Two blocks are equal. All bytes are compared, with no branch on any: at a known length the loop becomes vector code.
+fn equal(a: &[u8; 256], b: &[u8; 256]) -> bool
+    ensures { result ≡ same a.now b.now }
+{
+    let mut all = true;
+    for k in 0..256 {
+        all = all & (a[k] == b[k]);
+    }
+    all
+}
+
+// A block stands in an archive at `at`.
+fn stands_at(block: &[u8; 256], archive: &[u8], at: usize) -> bool
+    ensures { result ≡ same block.now (take 256 (drop at archive.now)) }
+{
+    match part(archive, at, 256).first_chunk::<256>() {
+        Some(other) => equal(block, other),
+        None => false,
+    }
+}
+
 // Puts a block into out, or compares it with that block of an archive.
-fn emit(target: Target, block: &[u8], m: Mark, out: &mut [u8]) -> Mark
+fn emit(target: Target, block: &[u8; 256], m: Mark, out: &mut [u8]) -> Mark
     requires { m.block ≤ 20000000 }
     ensures { Made (stepped (writes target.entry) (compared target.entry) (pass_of m out.old) block.now) 1 m out.old out.new result }
 {
@@ -66,7 +88,7 @@ fn emit(target: Target, block: &[u8], m: Mark, out: &mut [u8]) -> Mark
             }
         },
         Target::Compare(archive) => {
-            let equal = same(block, part(archive, at, 256));
+            let equal = stands_at(block, archive, at);
             Mark {
                 block: m.block + 1,
                 good: m.good & equal,

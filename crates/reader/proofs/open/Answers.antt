@@ -1,4 +1,3 @@
-use Rattle.outcome.proofs.Outcome.{passed}
 use Rattle.reader.proofs.Opening.{opens}
 use Rattle.reader.proofs.open.Goals as goal
 
@@ -14,5 +13,5 @@ overflow_cast-result c = search opens
 pub returns : goal.returns
 returns c = search opens
 
-pub returns-in_err-read_entries : goal.returns-in_err-read_entries
-returns-in_err-read_entries c = rw (passed c.from_residual.ensures.1) (search (opens, c.in_err-read_entries.ensures))
+pub returns-in-Unsound : goal.returns-in-Unsound
+returns-in-Unsound c = search opens
