@@ -1,5 +1,5 @@
 // Names as `list` shows them, taken back to their bytes.
-use std::alloc::{AllocError, Global};
+use arrayvec::ArrayVec;
 
 // One byte more than the longest name has.
 const TOO_MANY: usize = 31;
@@ -32,16 +32,19 @@ fn first_letter(shown: &[u8]) -> Option<(u8, &[u8])> {
     }
 }
 
+// The bytes of a name, or of one that is longer than any name.
+pub type Name = ArrayVec<u8, 31>;
+
 // The name that is shown so; of one that is longer than any name the first 31 bytes.
-pub fn unescape(alloc: Global, shown: &[u8]) -> Result<Vec<u8>, AllocError> {
-    let mut name = Vec::new(alloc);
+pub fn unescape(shown: &[u8]) -> Name {
+    let mut name = Name::new();
     let mut rest = shown;
     for _ in 0..TOO_MANY {
         let Some((byte, behind)) = first_letter(rest) else {
             break;
         };
-        name.push(byte)?;
+        let _ = name.try_push(byte);
         rest = behind;
     }
-    Ok(name)
+    name
 }

@@ -4,10 +4,10 @@
 pub mod decimal;
 pub mod letters;
 
+use arrayvec::ArrayVec;
 use decimal::number_of;
 use screen::names::path;
 use screen::{Failure, STDERR_FILENO, tell};
-use std::alloc::AllocError;
 use std::env::{Env, FillError};
 
 #[derive(Clone, Copy, Debug, PartialEq, Eq)]
@@ -144,6 +144,24 @@ impl Opt {
         matches!(self, Opt::Out | Opt::Side | Opt::Limit)
     }
 
+    // Its place in OPTIONS.
+    fn number(self) -> usize {
+        match self {
+            Opt::Force => 0,
+            Opt::As13 => 1,
+            Opt::As16 => 2,
+            Opt::Raw => 3,
+            Opt::Json => 4,
+            Opt::Svg => 5,
+            Opt::All => 6,
+            Opt::Empty => 7,
+            Opt::Out => 8,
+            Opt::Files => 9,
+            Opt::Side => 10,
+            Opt::Limit => 11,
+        }
+    }
+
     // Its name, and why a command may not take it.
     fn misplaced(self) -> &'static str {
         match self {
@@ -186,44 +204,124 @@ pub enum SideName {
     SurveyOffice,
 }
 
-// An option that is said, and its value; one without a value has none.
-#[derive(Drop)]
-struct Said {
-    option: Opt,
-    value: Vec<u8>,
-}
+// The bytes of a word, or of an option's value.
+pub type Word = ArrayVec<u8, 4096>;
 
-// The words that stand behind the command, and the options. Behind `--` all are words.
-#[derive(Drop)]
-pub struct Arguments {
-    pub command: Command,
-    words: Vec<Vec<u8>>,
-    options: Vec<Said>,
-}
-
-// Argument i in heap space; none past the last.
-fn argument(rt: &HostRuntime, i: usize) -> Result<Option<Vec<u8>>, Failure> {
+// Argument i; empty past the last.
+fn argument(rt: &HostRuntime, i: usize) -> Word {
     let mut space = io::buffer();
-    match rt.arg(i, &mut space) {
-        Ok(n) => Ok(Some(Vec::from_slice(rt.alloc(), lists::part(&space, 0, n))?)),
-        Err(FillError::NotPresent) => Ok(None),
-        Err(FillError::TooLong) => {
-            tell(b"linefiles: an argument is longer than 4096 bytes\n");
-            Err(Failure::Trouble)
-        },
-    }
+    let length = rt.arg(i, &mut space).unwrap_or(0);
+    let mut word = Word::new();
+    let _ = word.try_extend_from_slice(lists::part(&space, 0, length));
+    word
 }
 
-// All arguments from `first` on.
-fn all_arguments(rt: &HostRuntime, first: usize) -> Result<Vec<Vec<u8>>, Failure> {
-    let mut all = Vec::new(rt.alloc());
-    for i in first..usize::MAX {
-        match argument(rt, i)? {
-            Some(argument) => all.push(argument)?,
-            None => break,
+// Where words and options stand among the arguments. Behind `--` all are words.
+#[derive(Drop)]
+struct Places {
+    // the first words, as many as a command looks at; how many there are; how many of them are `-`
+    words: ArrayVec<usize, 80>,
+    many: usize,
+    dashes: usize,
+    // each option where it is said first, in the order of OPTIONS; its value stands behind it
+    options: [Option<usize>; 12],
+    // the first argument that begins as an option does, and is none
+    odd: Option<usize>,
+    // the next argument is the value of an option, and neither word nor option
+    awaits_value: bool,
+    is_ended: bool,
+}
+
+impl Places {
+    // Those of no arguments.
+    fn none() -> Places {
+        Places {
+            words: ArrayVec::new(),
+            many: 0,
+            dashes: 0,
+            options: [None; 12],
+            odd: None,
+            awaits_value: false,
+            is_ended: false,
         }
     }
-    Ok(all)
+
+    fn add_word(&mut self, place: usize, word: &[u8]) {
+        let _ = self.words.try_push(place);
+        self.many = self.many.saturating_add(1);
+        if is_dash(word) {
+            self.dashes = self.dashes.saturating_add(1);
+        }
+    }
+
+    fn add_option(&mut self, option: Opt, place: usize) {
+        if let Some(said) = self.options.get_mut(option.number()) {
+            *said = said.or(Some(place));
+        }
+        self.awaits_value = option.has_value();
+    }
+
+    // An argument before `--` that is no value.
+    fn add_open(&mut self, place: usize, argument: &[u8]) {
+        match Opt::of(argument) {
+            Some(option) => self.add_option(option, place),
+            None if is_odd(argument) => self.odd = self.odd.or(Some(place)),
+            None => self.add_word(place, argument),
+        }
+    }
+
+    // The argument that stands behind those before.
+    fn add(&mut self, place: usize, argument: &[u8]) {
+        let is_end = matches!(argument, b"--");
+        if self.awaits_value {
+            self.awaits_value = false;
+        } else if self.is_ended {
+            self.add_word(place, argument);
+        } else if !is_end {
+            self.add_open(place, argument);
+        }
+        self.is_ended = self.is_ended | is_end;
+    }
+
+    // The option's first place.
+    fn of_option(&self, option: Opt) -> Option<usize> {
+        *self.options.get(option.number())?
+    }
+}
+
+// What the argument before the first is: the first may be its value.
+fn places_before(rt: &HostRuntime, first: usize) -> Places {
+    let mut places = Places::none();
+    if let Some(before) = first.checked_sub(1) {
+        let option = Opt::of(argument(rt, before).as_slice());
+        places.awaits_value = option.is_some_and(|option| option.has_value());
+    }
+    places
+}
+
+// The places of the arguments from `first` on. One that is too long is refused.
+fn places_of(rt: &HostRuntime, first: usize) -> Result<Places, Failure> {
+    let mut places = places_before(rt, first);
+    let mut space = io::buffer();
+    for i in first..usize::MAX {
+        match rt.arg(i, &mut space) {
+            Ok(n) => places.add(i, lists::part(&space, 0, n)),
+            Err(FillError::NotPresent) => break,
+            Err(FillError::TooLong) => {
+                tell(b"linefiles: an argument is longer than 4096 bytes\n");
+                return Err(Failure::Trouble);
+            },
+        }
+    }
+    Ok(places)
+}
+
+// The words that stand behind the command, and the options.
+#[derive(Drop)]
+pub struct Arguments<'a> {
+    rt: &'a HostRuntime,
+    pub command: Command,
+    places: Places,
 }
 
 fn unknown_option(argument: &[u8]) -> Failure {
@@ -256,46 +354,38 @@ fn refuse_if(wrong: bool, why: &[u8]) -> Result<(), Failure> {
     Ok(())
 }
 
-// Says what is wrong with a value.
-fn wrong_value(value: &[u8], why: &[u8]) -> Failure {
-    tell(b"linefiles: ");
-    path(STDERR_FILENO, value);
-    tell(why);
-    Failure::Trouble
-}
-
 // The word is `-`, which stands for standard input or standard output.
 pub fn is_dash(word: &[u8]) -> bool {
     matches!(word, b"-")
 }
 
-impl Arguments {
+impl<'a> Arguments<'a> {
     // Word k, the command being word 0; where there is none, it is empty.
-    pub fn word(&self, k: usize) -> &[u8] {
-        match self.words.get(k) {
-            Some(word) => word.as_slice(),
-            None => b"",
+    pub fn word(&self, k: usize) -> Word {
+        match self.places.words.as_slice().get(k) {
+            Some(place) => argument(self.rt, *place),
+            None => Word::new(),
         }
     }
 
     // Word k is `-`.
     pub fn has_dash(&self, k: usize) -> bool {
-        is_dash(self.word(k))
+        is_dash(self.word(k).as_slice())
     }
 
     pub fn has(&self, option: Opt) -> bool {
-        self.options.iter().any(|said| said.option == option)
+        self.places.of_option(option).is_some()
     }
 
     // The value of an option that is said. Of one that is said twice the first counts.
-    pub fn value_of(&self, option: Opt) -> Option<&[u8]> {
-        let said = self.options.iter().find(|said| said.option == option)?;
-        Some(said.value.as_slice())
+    pub fn value_of(&self, option: Opt) -> Option<Word> {
+        let place = self.places.of_option(option)?;
+        Some(argument(self.rt, place.saturating_add(1)))
     }
 
     // The side that --side says.
     pub fn side(&self) -> Option<SideName> {
-        match self.value_of(Opt::Side)? {
+        match self.value_of(Opt::Side)?.as_slice() {
             b"ours" => Some(SideName::Ours),
             b"survey" => Some(SideName::SurveyOffice),
             _ => None,
@@ -304,7 +394,7 @@ impl Arguments {
 
     // The limit that --limit says.
     pub fn limit(&self) -> Option<u64> {
-        number_of(self.value_of(Opt::Limit)?)
+        number_of(self.value_of(Opt::Limit)?.as_slice())
     }
 
     // The sectors a track that an option says.
@@ -331,7 +421,8 @@ impl Arguments {
     // The output is standard output.
     pub fn out_is_dash(&self) -> bool {
         if self.command.changes() {
-            return self.value_of(Opt::Out).is_some_and(|out| is_dash(out));
+            let out = self.value_of(Opt::Out);
+            return out.is_some_and(|out| is_dash(out.as_slice()));
         }
         self.out_word().is_some_and(|k| self.has_dash(k))
     }
@@ -350,7 +441,7 @@ impl Arguments {
 
     // How many words stand behind word k.
     pub fn words_behind(&self, k: usize) -> usize {
-        self.words.len().saturating_sub(k).saturating_sub(1)
+        self.places.many.saturating_sub(k).saturating_sub(1)
     }
 
     // The number of words behind the command is what it wants; behind `forecast` there may be more.
@@ -380,22 +471,34 @@ impl Arguments {
         Ok(())
     }
 
+    // Says what is wrong with an option's value.
+    fn wrong_value(&self, option: Opt, why: &[u8]) -> Failure {
+        let value = self.value_of(option).unwrap_or_default();
+        tell(b"linefiles: ");
+        path(STDERR_FILENO, value.as_slice());
+        tell(why);
+        Failure::Trouble
+    }
+
     // Refused, and this is said: side or limit that are said as they cannot be, or without each other.
     fn check_side(&self) -> Result<(), Failure> {
-        let side = self.value_of(Opt::Side);
-        let limit = self.value_of(Opt::Limit);
-        if let (Some(value), None) = (side, self.side()) {
-            return Err(wrong_value(value, b" is no side; one is ours or survey\n"));
+        let has_side = self.has(Opt::Side);
+        let has_limit = self.has(Opt::Limit);
+        if has_side & self.side().is_none() {
+            return Err(self.wrong_value(Opt::Side, b" is no side; one is ours or survey\n"));
         }
-        if let (Some(value), None) = (limit, self.limit()) {
-            return Err(wrong_value(value, b" is no limit; one is 0 to 18446744073709551615\n"));
+        if has_limit & self.limit().is_none() {
+            return Err(self.wrong_value(
+                Opt::Limit,
+                b" is no limit; one is 0 to 18446744073709551615\n",
+            ));
         }
         refuse_if(
-            limit.is_some() & side.is_none(),
+            has_limit & !has_side,
             b"--limit is a side's; --side ours or --side survey says whose",
         )?;
         refuse_if(
-            (self.command == Command::Save) & side.is_some() & limit.is_none(),
+            (self.command == Command::Save) & has_side & !has_limit,
             b"--limit N is missing; a side saves within its limit of sectors",
         )
     }
@@ -429,60 +532,32 @@ impl Arguments {
             (self.command == Command::Save) & disk & self.has_dash(4),
             b"disk and file cannot both be standard input",
         )?;
-        let dashes = self.words.iter().filter(|word| is_dash(word)).count();
         refuse_if(
-            (self.command == Command::Forecast) & self.has(Opt::Files) & (1 < dashes),
+            (self.command == Command::Forecast) & self.has(Opt::Files) & (1 < self.places.dashes),
             b"only one of disk and files can be standard input",
         )
     }
 }
 
 // The arguments from `first` on; where something is wrong with them, this is said.
-pub fn read_arguments(rt: &HostRuntime, first: usize) -> Result<Arguments, Failure> {
-    let all = all_arguments(rt, first)?;
-    let end = all
-        .iter()
-        .position(|argument| matches!(argument.as_slice(), b"--"));
-    let end = end.unwrap_or(all.len());
-    let mut words = Vec::new(rt.alloc());
-    let mut options = Vec::new(rt.alloc());
-    let mut awaits_value = None;
-    for (i, argument) in all.into_iter().enumerate() {
-        if end < i {
-            words.push(argument)?;
-        } else if let Some(option) = awaits_value {
-            options.push(Said {
-                option,
-                value: argument,
-            })?;
-            awaits_value = None;
-        } else if i < end {
-            match Opt::of(argument.as_slice()) {
-                Some(option) if option.has_value() => awaits_value = Some(option),
-                Some(option) => options.push(Said {
-                    option,
-                    value: Vec::new(rt.alloc()),
-                })?,
-                None if is_odd(argument.as_slice()) => {
-                    return Err(unknown_option(argument.as_slice()));
-                },
-                None => words.push(argument)?,
-            }
-        }
+pub fn read_arguments(rt: &HostRuntime, first: usize) -> Result<Arguments<'_>, Failure> {
+    let places = places_of(rt, first)?;
+    if let Some(place) = places.odd {
+        return Err(unknown_option(argument(rt, place).as_slice()));
     }
-    let word = match words.first() {
-        Some(word) => word.as_slice(),
-        None => b"",
+    let word = match places.words.as_slice().first() {
+        Some(place) => argument(rt, *place),
+        None => Word::new(),
     };
-    let Some(command) = Command::of(word) else {
-        return Err(unknown_command(word));
+    let Some(command) = Command::of(word.as_slice()) else {
+        return Err(unknown_command(word.as_slice()));
     };
     let arguments = Arguments {
+        rt,
         command,
-        words,
-        options,
+        places,
     };
-    if awaits_value.is_some() | !arguments.has_words() {
+    if arguments.places.awaits_value | !arguments.has_words() {
         return Err(arguments.usage());
     }
     arguments.check_options()?;

@@ -5,10 +5,10 @@ use catalog::{entry_list, entry_start, first_page, last_page, valid_file};
 use disk::{Place, link_of};
 use files::last_list;
 use lists::byte_at;
+use pen::Picture;
 use pen::colours::{CATALOG, dark};
 use screen::seen::Seen;
 use screen::vtoc;
-use std::alloc::AllocError;
 
 // The point 11 from a on the way to b, in one direction, where the way is `far` in the longer one.
 fn near(a: u32, b: u32, far: u32) -> u32 {
@@ -53,17 +53,17 @@ struct Arrow {
 }
 
 impl Arrow {
-    fn draw(self, out: &mut String, file: Option<u32>) -> Result<(), AllocError> {
+    fn draw(self, out: &mut Picture, file: Option<u32>) {
         let (style, colour) = match file {
             Some(file) => ('e', dark(file)),
             None => ('c', CATALOG),
         };
         let Point { x, y } = self.begin;
-        write!(out, "<path d=\"M{x} {y}")?;
+        write!(out, "<path d=\"M{x} {y}");
         let Point { x, y } = self.bend;
-        write!(out, "Q{x} {y}")?;
+        write!(out, "Q{x} {y}");
         let Point { x, y } = self.end;
-        write!(out, " {x} {y}\" class=\"{style}\" stroke=\"{colour}\"/>\n")
+        write!(out, " {x} {y}\" class=\"{style}\" stroke=\"{colour}\"/>\n");
     }
 
     // An arrow from a sector to itself.
@@ -147,14 +147,7 @@ fn bend_of(per: u8, from: Point, to: Point, far: u32) -> Point {
 }
 
 // The arrows from list to list. Those behind a list that was seen before are drawn already.
-fn list_arrows(
-    out: &mut String,
-    disk: &[u8],
-    per: u8,
-    file: u32,
-    first: Place,
-    seen: &mut Seen,
-) -> Result<(), AllocError> {
+fn list_arrows(out: &mut Picture, disk: &[u8], per: u8, file: u32, first: Place, seen: &mut Seen) {
     let mut p = first;
     for _ in 0..560u16 {
         if last_list(disk, per, p) || seen.has(per, p) {
@@ -162,48 +155,46 @@ fn list_arrows(
         }
         seen.add(per, p);
         let q = link_of(disk, per, p);
-        Arrow::between(per, p, q).draw(out, Some(file))?;
+        Arrow::between(per, p, q).draw(out, Some(file));
         p = q;
     }
-    Ok(())
 }
 
 // The arrows of the entries of page p that are in use: the files so far.
 fn page_arrows(
-    out: &mut String,
+    out: &mut Picture,
     disk: &[u8],
     per: u8,
     p: Place,
     seen: &mut Seen,
     before: u32,
-) -> Result<u32, AllocError> {
+) -> u32 {
     let mut files = before;
     for i in 0..7u8 {
         let x = entry_start(per, p, i);
         if valid_file(byte_at(disk, x)) {
             files = files.saturating_add(1);
             let list = entry_list(disk, x);
-            Arrow::between(per, p, list).draw(out, Some(files))?;
-            list_arrows(out, disk, per, files, list, seen)?;
+            Arrow::between(per, p, list).draw(out, Some(files));
+            list_arrows(out, disk, per, files, list, seen);
         }
     }
-    Ok(files)
+    files
 }
 
 // All arrows.
-pub fn draw_arrows(out: &mut String, disk: &[u8], per: u8) -> Result<(), AllocError> {
+pub fn draw_arrows(out: &mut Picture, disk: &[u8], per: u8) {
     let mut seen = Seen::none();
     let mut files = 0;
     let mut p = first_page(disk, per);
-    Arrow::between(per, vtoc(), p).draw(out, None)?;
+    Arrow::between(per, vtoc(), p).draw(out, None);
     for _ in 0..560u16 {
-        files = page_arrows(out, disk, per, p, &mut seen, files)?;
+        files = page_arrows(out, disk, per, p, &mut seen, files);
         if last_page(disk, per, p) {
             break;
         }
         let q = link_of(disk, per, p);
-        Arrow::between(per, p, q).draw(out, None)?;
+        Arrow::between(per, p, q).draw(out, None);
         p = q;
     }
-    Ok(())
 }

@@ -6,8 +6,7 @@ ghost use Rattle.std.specs.Prelude.{◌≤◌};
 use disk::{Place, Sector, Track};
 use holders::is_free;
 use pen::colours::{Colour, dark, light};
-use pen::shown;
-use std::alloc::{AllocError, Global};
+use pen::{Picture, shown};
 use uses::{Holder, Uses, name_of};
 
 pub const TRACKS: u8 = 35;
@@ -19,7 +18,6 @@ pub struct Drawing<'a> {
     pub per: u8,
     pub uses: &'a Uses,
     pub entries: &'a [u8],
-    pub alloc: Global,
 }
 
 // A sector of the picture: where it stands, its first holder, whether it has more, and whether the map calls it free.
@@ -79,62 +77,62 @@ impl Seat {
     }
 
     // Its square, the end left open.
-    fn square(self, out: &mut String) -> Result<(), AllocError> {
+    fn square(self, out: &mut Picture) {
         let x = self.left() + 1;
         let y = self.top() + 1;
         let style = self.style();
         write!(
             out,
             "<rect x=\"{x}\" y=\"{y}\" width=\"27\" height=\"27\" class=\"{style}\""
-        )?;
+        );
         if let Some(file) = self.file() {
             let fill = light(file);
             let edge = self.edge(file);
-            write!(out, " fill=\"{fill}\" stroke=\"{edge}\"")?;
+            write!(out, " fill=\"{fill}\" stroke=\"{edge}\"");
         }
-        out.push_str(">")
+        out.push_str(">");
     }
 
     // What it serves, in words.
-    fn say_use(self, out: &mut String, d: Drawing) -> Result<(), AllocError> {
+    fn say_use(self, out: &mut Picture, d: Drawing) {
         match self.holder {
             Some(Holder::Vtoc) => out.push_str("VTOC"),
             Some(Holder::Page) => out.push_str("catalog page"),
             Some(Holder::List(file)) => {
-                out.push_str("list of ")?;
-                shown(out, d.alloc, name_of(d.entries, file), NAME_COLUMNS)
+                out.push_str("list of ");
+                shown(out, name_of(d.entries, file), NAME_COLUMNS)
             },
-            Some(Holder::Data(file)) => shown(out, d.alloc, name_of(d.entries, file), NAME_COLUMNS),
+            Some(Holder::Data(file)) => shown(out, name_of(d.entries, file), NAME_COLUMNS),
             None if self.free => out.push_str("free"),
             None => out.push_str("used in the map, in no chain"),
         }
     }
 
     // The square with its title.
-    fn cell(self, out: &mut String, d: Drawing) -> Result<(), AllocError> {
+    fn cell(self, out: &mut Picture, d: Drawing) {
         let track = self.track;
         let sector = self.sector;
-        self.square(out)?;
-        write!(out, "<title>{track}/{sector}: ")?;
-        self.say_use(out, d)?;
+        self.square(out);
+        write!(out, "<title>{track}/{sector}: ");
+        self.say_use(out, d);
         if self.shared {
-            out.push_str(", shared")?;
+            out.push_str(", shared");
         }
         if self.is_loose() {
-            out.push_str(", free in the map")?;
+            out.push_str(", free in the map");
         }
-        out.push_str("</title></rect>\n")
+        out.push_str("</title></rect>\n");
     }
 
     // The red cross of a shared sector, and the red outline of one in a chain that the map calls free.
-    fn marks(self, out: &mut String) -> Result<(), AllocError> {
+    fn marks(self, out: &mut Picture) {
         if self.shared {
             let x = self.left() + 2;
             let y = self.top() + 2;
             write!(
                 out,
                 "<path d=\"M{x} {y}l25 25m-25 0l25-25\" class=\"x\"/>\n"
-            )?;
+            );
         }
         if self.is_loose() {
             let x = self.left() + 1;
@@ -142,15 +140,14 @@ impl Seat {
             write!(
                 out,
                 "<rect x=\"{x}\" y=\"{y}\" width=\"27\" height=\"27\" class=\"d\"/>\n"
-            )?;
+            );
         }
-        Ok(())
     }
 
     // The letters of a holder: V, C or L, or none, and the number of its file. They are small where there are four.
-    fn letters(self, out: &mut String) -> Result<(), AllocError> {
+    fn letters(self, out: &mut Picture) {
         let Some(holder) = self.holder else {
-            return Ok(());
+            return;
         };
         let (letter, size) = match holder {
             Holder::Vtoc => ("V", 'w'),
@@ -160,7 +157,7 @@ impl Seat {
         };
         let x = self.left() + 14;
         let y = self.top() + 19;
-        write!(out, "<text x=\"{x}.5\" y=\"{y}\" class=\"{size}\"")?;
+        write!(out, "<text x=\"{x}.5\" y=\"{y}\" class=\"{size}\"");
         match holder.file() {
             Some(file) => {
                 let colour = light(file);
@@ -224,18 +221,17 @@ impl<'a> Drawing<'a> {
     }
 
     // One layer of all sectors.
-    pub fn layer(self, out: &mut String, layer: Layer) -> Result<(), AllocError> {
+    pub fn layer(self, out: &mut Picture, layer: Layer) {
         for track in 0..TRACKS {
             for sector in 0..self.per {
                 let seat = self.seat(track, sector);
                 match layer {
-                    Layer::Cells => seat.cell(out, self)?,
-                    Layer::Marks => seat.marks(out)?,
-                    Layer::Letters => seat.letters(out)?,
+                    Layer::Cells => seat.cell(out, self),
+                    Layer::Marks => seat.marks(out),
+                    Layer::Letters => seat.letters(out),
                 }
             }
         }
-        Ok(())
     }
 
     // How many sectors of a kind there are.

@@ -274,7 +274,7 @@ fn save_bytes(
     data: &[u8],
     target: Target,
 ) -> Result<(), Failure> {
-    let name = unescape(rt.alloc(), shown)?;
+    let name = unescape(shown);
     let name = name.as_slice();
     let mut image = disk_space();
     let saved = save_to(&mut image, disk, caller, name, at, data);
@@ -330,7 +330,7 @@ pub fn delete(
     target: Target,
 ) -> Result<(), Failure> {
     check_edition(disk)?;
-    let name = unescape(rt.alloc(), shown)?;
+    let name = unescape(shown);
     let name = name.as_slice();
     let mut image = disk_space();
     let deleted = delete_from(&mut image, disk, caller, name);

@@ -5,7 +5,7 @@ mod file_name;
 
 use arguments::is_dash;
 use arguments::letters::unescape;
-use file_name::put_file_name;
+use file_name::{Path, put, put_file_name};
 use file_walk::{refuse, refuse_archive};
 use lists::byte_at;
 use outcome::Refusal;
@@ -14,7 +14,6 @@ use screen::{
     BINARY, Failure, STDERR_FILENO, STDOUT_FILENO, count, finish, kind_letters, names, refusal,
     say, tell, text, text_number,
 };
-use std::alloc::AllocError;
 use storing::{ready_folder, write_file};
 
 // The most blocks of an archive.
@@ -87,7 +86,7 @@ pub fn get(
     to: &[u8],
     terms: Terms,
 ) -> Result<(), Failure> {
-    let name = unescape(rt.alloc(), shown)?;
+    let name = unescape(shown);
     let mut out = file_space();
     let fetched = files::fetch(disk, name.as_slice(), &mut out);
     let length = fetched.map_err(|why| not_fetched(disk, shown, why))?;
@@ -170,18 +169,19 @@ impl<'a> Source<'a> {
     }
 
     // The path of a file in the folder.
-    fn path_of(self, rt: &HostRuntime, name: &[u8], n: Alike) -> Result<Vec<u8>, AllocError> {
-        let mut path = Vec::from_slice(rt.alloc(), self.folder)?;
-        path.extend_from_slice(b"/")?;
-        put_file_name(name, n.before, n.all, &mut path, rt.alloc())?;
-        Ok(path)
+    fn path_of(self, name: &[u8], n: Alike) -> Path {
+        let mut path = Path::new();
+        put(self.folder, &mut path);
+        put(b"/", &mut path);
+        put_file_name(name, n.before, n.all, &mut path);
+        path
     }
 
     // Writes the entry at a block.
     fn write(self, rt: &HostRuntime, block: u64, e: reader::Entry) -> Result<(), Failure> {
         let name = reader::entry_name(self.archive, block);
         let n = self.alike(block);
-        let path = self.path_of(rt, name, n)?;
+        let path = self.path_of(name, n);
         let mut out = file_space();
         let length = self.data_of(e, &mut out);
         write_file(
@@ -195,7 +195,7 @@ impl<'a> Source<'a> {
     }
 
     // Writes each entry, or leaves it out: a line for each.
-    fn write_all(self, rt: &HostRuntime) -> Result<Tally, Failure> {
+    fn write_all(self, rt: &HostRuntime) -> Tally {
         let mut tally = Tally {
             written: 0,
             left_out: 0,
@@ -209,7 +209,6 @@ impl<'a> Source<'a> {
             if self.wants(e) {
                 match self.write(rt, block, e) {
                     Ok(()) => tally.written = tally.written.saturating_add(1),
-                    Err(Failure::OutOfMemory) => return Err(Failure::OutOfMemory),
                     Err(_) => tally.failed = tally.failed.saturating_add(1),
                 }
             } else {
@@ -218,7 +217,7 @@ impl<'a> Source<'a> {
             }
             block = u64::from(e.next);
         }
-        Ok(tally)
+        tally
     }
 }
 
@@ -280,5 +279,5 @@ pub fn get_all(rt: &HostRuntime, disk: &[u8], folder: &[u8], terms: Terms) -> Re
         folder,
         terms,
     };
-    say_tally(rt, source.write_all(rt)?)
+    say_tally(rt, source.write_all(rt))
 }

@@ -3,12 +3,14 @@
 // second argument is then `--as=`, with what is to be kept of a disk that is replaced.
 #![tactic(auto)]
 
-use arguments::{Arguments, Command, Opt, read_arguments};
+use arguments::{Arguments, Command, Opt, Word, read_arguments};
 use changing::Target;
 use fetching::Terms;
 use fields::{Edition, per_track};
 use file_walk::{refuse, refuse_archive};
+use files::DiskSurvey;
 use outcome::Refusal;
+use pen::Picture;
 use screen::space::{archive_space, disk_space, stream_space};
 use screen::{
     Failure, STDERR_FILENO, STDOUT_FILENO, finish, input, json, names, number, refusal, say, tell,
@@ -26,14 +28,27 @@ fn save_word(
     k: usize,
     bytes: &[u8],
 ) -> Result<(), Failure> {
-    write_file(rt, arguments.word(k), bytes, arguments.has(Opt::Force))
+    let path = arguments.word(k);
+    write_file(rt, path.as_slice(), bytes, arguments.has(Opt::Force))
+}
+
+// The picture's space is this function's, so that other commands cost none.
+fn draw_svg(
+    rt: &HostRuntime,
+    arguments: &Arguments,
+    disk: &[u8],
+    survey: DiskSurvey,
+) -> Result<(), Failure> {
+    let mut picture = Picture::new();
+    let from = arguments.word(1);
+    svg::draw(disk, survey, from.as_slice(), &mut picture);
+    save_word(rt, arguments, 2, picture.as_bytes())
 }
 
 fn draw_map(rt: &HostRuntime, arguments: &Arguments, disk: &[u8]) -> Result<(), Failure> {
     let survey = files::survey(disk).map_err(|why| refuse(disk, why))?;
     if arguments.has(Opt::Svg) {
-        let picture = svg::draw(rt.alloc(), disk, survey, arguments.word(1))?;
-        return save_word(rt, arguments, 2, picture.as_bytes());
+        return draw_svg(rt, arguments, disk, survey);
     }
     picture::draw(disk);
     finish(rt, b"\n")
@@ -49,10 +64,12 @@ fn get(rt: &HostRuntime, arguments: &Arguments, disk: &[u8]) -> Result<(), Failu
         empty: arguments.has(Opt::Empty),
         force: arguments.has(Opt::Force),
     };
+    let name = arguments.word(2);
     if arguments.has(Opt::All) {
-        return fetching::get_all(rt, disk, arguments.word(2), terms);
+        return fetching::get_all(rt, disk, name.as_slice(), terms);
     }
-    fetching::get(rt, disk, arguments.word(2), arguments.word(3), terms)
+    let out = arguments.word(3);
+    fetching::get(rt, disk, name.as_slice(), out.as_slice(), terms)
 }
 
 fn write_archive(rt: &HostRuntime, arguments: &Arguments, disk: &[u8]) -> Result<(), Failure> {
@@ -73,7 +90,8 @@ fn refuse_other(disk: &[u8], archive: &[u8]) -> Failure {
 
 fn check(rt: &HostRuntime, arguments: &Arguments, disk: &[u8]) -> Result<(), Failure> {
     let mut space = archive_space();
-    let length = read_file(rt, arguments.word(2), &mut space)?;
+    let from = arguments.word(2);
+    let length = read_file(rt, from.as_slice(), &mut space)?;
     let archive = lists::part(&space, 0, length);
     match writer::check_archive(disk, archive) {
         Ok(()) => finish(rt, b"pass: this is the archive of this disk\n"),
@@ -96,41 +114,46 @@ fn nibblize(rt: &HostRuntime, arguments: &Arguments, disk: &[u8]) -> Result<(), 
 }
 
 // Where a changed disk goes: what stands behind --out, or where it came from.
-fn target_of(arguments: &Arguments) -> Target<'_> {
-    let force = arguments.has(Opt::Force);
+fn target_path(arguments: &Arguments) -> Word {
     match arguments.value_of(Opt::Out) {
-        Some(path) => Target {
-            path,
-            over: false,
-            force,
-        },
-        None => Target {
-            path: arguments.word(1),
-            over: true,
-            force,
-        },
+        Some(path) => path,
+        None => arguments.word(1),
+    }
+}
+
+fn target_of<'a>(arguments: &Arguments, path: &'a [u8]) -> Target<'a> {
+    Target {
+        path,
+        over: !arguments.has(Opt::Out),
+        force: arguments.has(Opt::Force),
     }
 }
 
 fn save(rt: &HostRuntime, arguments: &Arguments, disk: &[u8]) -> Result<(), Failure> {
+    let name = arguments.word(2);
+    let address = arguments.word(3);
+    let file = arguments.word(4);
+    let path = target_path(arguments);
     changing::save(
         rt,
         disk,
         caller_said(arguments),
-        arguments.word(2),
-        arguments.word(3),
-        arguments.word(4),
-        target_of(arguments),
+        name.as_slice(),
+        address.as_slice(),
+        file.as_slice(),
+        target_of(arguments, path.as_slice()),
     )
 }
 
 fn delete(rt: &HostRuntime, arguments: &Arguments, disk: &[u8]) -> Result<(), Failure> {
+    let name = arguments.word(2);
+    let path = target_path(arguments);
     changing::delete(
         rt,
         disk,
         caller_said(arguments),
-        arguments.word(2),
-        target_of(arguments),
+        name.as_slice(),
+        target_of(arguments, path.as_slice()),
     )
 }
 
@@ -235,6 +258,7 @@ fn say_stream(fd: i32, from: &[u8], size: u64, taking: Taking) {
 // A file that is taken as a nibble stream. The first line says so.
 fn as_stream(rt: &HostRuntime, arguments: &Arguments, bytes: &[u8]) -> Result<(), Failure> {
     let from = arguments.word(1);
+    let from = from.as_slice();
     let size = bytes.len() as u64;
     let taking = Taking::of(arguments.sectors_per_track(), bytes);
     if arguments.has(Opt::Json) {
@@ -261,6 +285,7 @@ fn say_flat(fd: i32, from: &[u8], size: u64, per: u8) {
 // A file that is a flat disk by its length.
 fn as_flat(rt: &HostRuntime, arguments: &Arguments, bytes: &[u8]) -> Result<(), Failure> {
     let from = arguments.word(1);
+    let from = from.as_slice();
     let per = disk::sectors_of(bytes);
     let size = bytes.len() as u64;
     if arguments.has(Opt::Json) {
@@ -276,6 +301,7 @@ fn as_flat(rt: &HostRuntime, arguments: &Arguments, bytes: &[u8]) -> Result<(), 
 // A command on a disk: flat, or by its length a nibble stream. The first line says which.
 fn on_disk(rt: &HostRuntime, arguments: &Arguments, bytes: &[u8]) -> Result<(), Failure> {
     let from = arguments.word(1);
+    let from = from.as_slice();
     if arguments.command.changes() {
         changing::check_order(from)?;
         if !is_flat(bytes) {
@@ -294,29 +320,31 @@ fn on_disk(rt: &HostRuntime, arguments: &Arguments, bytes: &[u8]) -> Result<(), 
     as_flat(rt, arguments, bytes)
 }
 
-// Runs the command that stands among the arguments at `first`: reads the file that it is about, and goes on with its bytes.
-fn run(rt: &HostRuntime, first: usize) -> Result<(), Failure> {
-    let arguments = read_arguments(rt, first)?;
-    let from = arguments.word(1);
+// Reads the file that a command is about, and goes on with its bytes. The space for it is this function's, so that arguments that are refused cost none.
+fn act(rt: &HostRuntime, arguments: &Arguments) -> Result<(), Failure> {
     let mut space = archive_space();
+    let from = arguments.word(1);
+    let from = from.as_slice();
     let length = read_file(rt, from, &mut space)?;
     let bytes = lists::part(&space, 0, length);
     if arguments.command == Command::Show {
         return archive_report::show(rt, from, bytes, arguments.has(Opt::Raw));
     }
-    on_disk(rt, &arguments, bytes)
+    on_disk(rt, arguments, bytes)
 }
 
-// The exit status of a run; what is wrong was said before, but that memory is short.
+// Runs the command that stands among the arguments at `first`.
+fn run(rt: &HostRuntime, first: usize) -> Result<(), Failure> {
+    let arguments = read_arguments(rt, first)?;
+    act(rt, &arguments)
+}
+
+// The exit status of a run; what is wrong was said before.
 fn status_of(done: Result<(), Failure>) -> u64 {
     match done {
         Ok(()) => 0,
         Err(Failure::Refused) => 1,
         Err(Failure::Trouble) => 2,
-        Err(Failure::OutOfMemory) => {
-            tell(b"linefiles: there is not enough memory\n");
-            2
-        },
     }
 }
 

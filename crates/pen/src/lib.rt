@@ -1,10 +1,39 @@
-// Names and paths as they are written in a picture, and the colours of files.
+// A picture as text, names and paths as they are written in it, and the colours of files.
 #![tactic(auto)]
 
 pub mod colours;
 
-use std::alloc::{AllocError, Global};
+use arrayvec::ArrayString;
+use lists::{byte_at, part};
 use std::fmt;
+
+// A picture as far as it is drawn. What does not fit is left out.
+#[derive(Drop)]
+pub struct Picture {
+    text: ArrayString<1048576>,
+}
+
+impl Picture {
+    // With nothing drawn.
+    pub fn new() -> Picture {
+        Picture {
+            text: ArrayString::new(),
+        }
+    }
+
+    pub fn push_str(&mut self, s: &str) {
+        let _ = self.text.try_push_str(s);
+    }
+
+    // What `write!` calls.
+    pub fn write_fmt<D: fmt::Display + Drop>(&mut self, value: D) {
+        let _ = fmt::Write::write_fmt(&mut self.text, value);
+    }
+
+    pub fn as_bytes(&self) -> &[u8] {
+        self.text.as_str().as_bytes()
+    }
+}
 
 // A piece of a name or a path: a character, or a byte that is shown by its number.
 #[derive(Clone, Copy, Debug, PartialEq, Eq)]
@@ -21,6 +50,14 @@ impl Piece {
             Piece::Character('\\') => 2,
             Piece::Character(c) if 2 < c.len_utf8() => 2,
             Piece::Character(_) => 1,
+        }
+    }
+
+    // How many bytes it stands for.
+    fn bytes(self) -> usize {
+        match self {
+            Piece::Byte(_) => 1,
+            Piece::Character(c) => c.len_utf8(),
         }
     }
 }
@@ -45,63 +82,76 @@ fn is_odd(c: char) -> bool {
     (c < ' ') | (c == '\x7f') | (c == '\u{fffe}') | (c == '\u{ffff}')
 }
 
-fn pieces(alloc: Global, s: &[u8]) -> Result<Vec<Piece>, AllocError> {
-    let mut pieces = Vec::new(alloc);
-    for chunk in s.utf8_chunks() {
-        for c in chunk.valid().chars() {
-            if !is_odd(c) {
-                pieces.push(Piece::Character(c))?;
-                continue;
-            }
-            let mut bytes = [0u8; 4];
-            for b in c.encode_utf8(&mut bytes).as_bytes() {
-                pieces.push(Piece::Byte(*b))?;
-            }
-        }
-        for b in chunk.invalid() {
-            pieces.push(Piece::Byte(*b))?;
-        }
+// The piece with which s begins.
+fn first_piece(s: &[u8]) -> Option<Piece> {
+    let chunk = part(s, 0, 4).utf8_chunks().next()?;
+    match chunk.valid().chars().next() {
+        Some(c) if !is_odd(c) => Some(Piece::Character(c)),
+        _ => Some(Piece::Byte(byte_at(s, 0))),
     }
-    Ok(pieces)
 }
 
-// The pieces in at most so many columns, and `...` where they have more.
-fn write_pieces(out: &mut String, pieces: &[Piece], most: usize) -> Result<(), AllocError> {
+// What stands behind it.
+fn behind(s: &[u8], piece: Piece) -> &[u8] {
+    part(s, piece.bytes(), s.len())
+}
+
+// A name or a path has no more bytes.
+const LONGEST: u16 = 4096;
+
+// A name or a path in at most so many columns, and `...` where it has more.
+pub fn shown(out: &mut Picture, s: &[u8], most: usize) {
     let mut wide: usize = 0;
-    for piece in pieces {
+    let mut rest = s;
+    for _ in 0..LONGEST {
+        let Some(piece) = first_piece(rest) else {
+            return;
+        };
         wide = wide.saturating_add(piece.columns());
         if most < wide {
             return out.push_str("...");
         }
-        write!(out, "{piece}")?;
+        write!(out, "{piece}");
+        rest = behind(rest, piece);
     }
-    Ok(())
 }
 
-// A name or a path in at most so many columns, and `...` where it has more.
-pub fn shown(out: &mut String, alloc: Global, s: &[u8], most: usize) -> Result<(), AllocError> {
-    let pieces = pieces(alloc, s)?;
-    write_pieces(out, pieces.as_slice(), most)
+// How many columns it takes.
+fn width(s: &[u8]) -> usize {
+    let mut wide: usize = 0;
+    let mut rest = s;
+    for _ in 0..LONGEST {
+        let Some(piece) = first_piece(rest) else {
+            break;
+        };
+        wide = wide.saturating_add(piece.columns());
+        rest = behind(rest, piece);
+    }
+    wide
 }
 
 // The end that takes at most so many columns.
-fn end_of(pieces: &[Piece], most: usize) -> &[Piece] {
-    let mut wide: usize = 0;
-    for (i, piece) in pieces.iter().enumerate().rev() {
-        wide = wide.saturating_add(piece.columns());
-        if most < wide {
-            return &pieces[i + 1..];
+fn end_of(s: &[u8], most: usize) -> &[u8] {
+    let mut wide = width(s);
+    let mut rest = s;
+    for _ in 0..LONGEST {
+        if wide <= most {
+            break;
         }
+        let Some(piece) = first_piece(rest) else {
+            break;
+        };
+        wide = wide.saturating_sub(piece.columns());
+        rest = behind(rest, piece);
     }
-    pieces
+    rest
 }
 
 // A path by its end, in 80 columns and `...` before it where it has more.
-pub fn shown_end(out: &mut String, alloc: Global, s: &[u8]) -> Result<(), AllocError> {
-    let pieces = pieces(alloc, s)?;
-    let end = end_of(pieces.as_slice(), 80);
-    if end.len() < pieces.len() {
-        out.push_str("...")?;
+pub fn shown_end(out: &mut Picture, s: &[u8]) {
+    let end = end_of(s, 80);
+    if end.len() < s.len() {
+        out.push_str("...");
     }
-    write_pieces(out, end, 80)
+    shown(out, end, 80);
 }

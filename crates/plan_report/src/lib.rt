@@ -3,6 +3,7 @@
 
 use arguments::decimal::number_of;
 use arguments::{Arguments, Opt};
+use arrayvec::ArrayVec;
 use changing::{
     LONGEST, check_edition, data_space, open_lines, refuse_disk, say_zeros, sectors_for,
     sectors_taken, spare_sectors,
@@ -45,19 +46,22 @@ fn file_length(rt: &HostRuntime, path: &[u8]) -> Result<u64, Failure> {
     Ok(length as u64)
 }
 
+// The lengths that are looked at.
+type Lengths = ArrayVec<u64, 65>;
+
 // The lengths of the plan. Where one is none, this is told.
-fn lengths_of(rt: &HostRuntime, arguments: &Arguments) -> Result<Vec<u64>, Failure> {
+fn lengths_of(rt: &HostRuntime, arguments: &Arguments) -> Result<Lengths, Failure> {
     let many = arguments.words_behind(FIRST_LENGTH - 1).min(MOST_LENGTHS);
     let files = arguments.has(Opt::Files);
-    let mut lengths = Vec::new(rt.alloc());
+    let mut lengths = Lengths::new();
     for k in 0..many {
         let word = arguments.word(FIRST_LENGTH + k);
         let length = if files {
-            file_length(rt, word)?
+            file_length(rt, word.as_slice())?
         } else {
-            said_length(word)?
+            said_length(word.as_slice())?
         };
-        lengths.push(length)?;
+        let _ = lengths.try_push(length);
     }
     Ok(lengths)
 }
@@ -164,8 +168,9 @@ fn lines(disk: &[u8], arguments: &Arguments, lengths: &[u64], marks: &[u64]) -> 
     };
     let is_file = arguments.has(Opt::Files);
     for (k, (size, mark)) in lengths.iter().zip(marks.iter()).enumerate() {
+        let word = arguments.word(k.saturating_add(FIRST_LENGTH));
         let save = Save {
-            word: arguments.word(k.saturating_add(FIRST_LENGTH)),
+            word: word.as_slice(),
             is_file,
             size: *size,
             ends: *mark != 0,

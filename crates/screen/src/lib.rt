@@ -8,7 +8,6 @@ pub mod space;
 
 use disk::{Place, Sector, Track, sector_start};
 use outcome::Refusal;
-use std::alloc::{AllocError, AllocFailed};
 use std::fmt;
 use std::fmt::Write;
 use std::io::{Error, ErrorKind};
@@ -20,27 +19,13 @@ pub const STDOUT_FILENO: i32 = 1;
 
 pub const STDERR_FILENO: i32 = 2;
 
-// Why a command does not end well. What is wrong was said before, but where memory is short.
+// Why a command does not end well. What is wrong was said before.
 #[derive(Clone, Copy, Debug, PartialEq, Eq)]
 pub enum Failure {
     // a disk, stream, archive or plan is refused, a disk is not clean, or there is no space for a save
     Refused,
     // bad usage, or a file that cannot be read or written
     Trouble,
-    // the system gives no more memory
-    OutOfMemory,
-}
-
-impl From<AllocError> for Failure {
-    fn from(_: AllocError) -> Failure {
-        Failure::OutOfMemory
-    }
-}
-
-impl<T: Drop> From<AllocFailed<T>> for Failure {
-    fn from(_: AllocFailed<T>) -> Failure {
-        Failure::OutOfMemory
-    }
 }
 
 pub fn text(fd: i32, s: &[u8]) {

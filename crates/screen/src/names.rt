@@ -67,7 +67,7 @@ fn show_alike(a: &[u8], b: &[u8]) -> bool {
 
 // They show alike, and are cut differently.
 pub fn is_twin(a: &[u8], b: &[u8]) -> bool {
-    show_alike(a, b) & (a != b)
+    show_alike(a, b) && a != b
 }
 
 // How many bytes at the end are the last one.

@@ -3,7 +3,6 @@
 use std::env::Env;
 use std::fs::{File, Permissions};
 use std::os::unix::fs::{PermissionsExt, fchown};
-use std::str::from_utf8;
 
 #[derive(Clone, Copy)]
 struct Kept {
@@ -12,16 +11,41 @@ struct Kept {
     group: u32,
 }
 
-// What an argument says is to be kept.
+// The value of a digit in a base of 10 or less.
+fn digit(b: u8, base: u32) -> Option<u32> {
+    if !b.is_ascii_digit() {
+        return None;
+    }
+    let value = u32::from(b - b'0');
+    if value < base { Some(value) } else { None }
+}
+
+// A number of 12 digits at most, as far as 32 bits hold it, and what stands behind the byte that ends it. None where there is no digit.
+fn next_number(text: &[u8], base: u32) -> Option<(u32, &[u8])> {
+    let mut number: u32 = 0;
+    let mut length: usize = 0;
+    for b in text.iter().take(12) {
+        let Some(value) = digit(*b, base) else {
+            break;
+        };
+        number = number.wrapping_mul(base).wrapping_add(value);
+        length = length.saturating_add(1);
+    }
+    if length == 0 {
+        return None;
+    }
+    Some((
+        number,
+        lists::part(text, length.saturating_add(1), text.len()),
+    ))
+}
+
+// What an argument says is to be kept. What stands behind the three numbers is not looked at.
 fn kept_of(argument: &[u8]) -> Option<Kept> {
-    let said = from_utf8(argument).ok()?.strip_prefix("--as=")?;
-    let (mode, owners) = said.split_once(':')?;
-    let (owner, group) = owners.split_once(':')?;
-    Some(Kept {
-        mode: u32::from_str_radix(mode, 8).ok()?,
-        owner: owner.parse::<u32>().ok()?,
-        group: group.parse::<u32>().ok()?,
-    })
+    let (mode, owners) = next_number(argument.strip_prefix(b"--as=")?, 8)?;
+    let (owner, groups) = next_number(owners, 10)?;
+    let (group, _) = next_number(groups, 10)?;
+    Some(Kept { mode, owner, group })
 }
 
 fn kept_said(rt: &HostRuntime) -> Option<Kept> {

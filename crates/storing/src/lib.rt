@@ -6,13 +6,12 @@ mod naming;
 mod standing;
 
 use kept::keep;
-use naming::{is_renamed, of_folder, of_new, of_own};
+use naming::{Path, is_renamed, of_folder, of_new, of_own, path_of, put};
 use screen::names::{input as show_input, path as show_path};
 use screen::{
     Failure, STDERR_FILENO, STDIN_FILENO, STDOUT_FILENO, fail, finish, say, tell, text_number,
 };
 use standing::{file_path, folder_of, is_folder, is_link};
-use std::alloc::AllocError;
 use std::fs;
 use std::fs::{File, OpenOptions};
 use std::io::{Error, ErrorKind, Read, Seek, SeekFrom, Write};
@@ -55,8 +54,9 @@ fn too_long(path: &[u8], most: usize) -> Failure {
 
 // Opens a file to read it.
 fn open_read(rt: &HostRuntime, path: &[u8]) -> Result<File, Failure> {
-    let opened = match of_own(rt, path) {
-        Ok(name) => File::open(rt, name.as_str()),
+    let mut space = Path::new();
+    let opened = match of_own(rt, path, &mut space) {
+        Ok(name) => File::open(rt, name),
         Err(e) => Err(e),
     };
     opened.map_err(|e| cannot_read(path, e))
@@ -122,50 +122,53 @@ fn is_there(path: &[u8], what: &[u8]) -> Failure {
 }
 
 // Something stands at a path whose file gets another name first.
-fn is_taken(rt: &HostRuntime, path: &[u8]) -> Result<bool, Error> {
-    match of_own(rt, path) {
-        Ok(name) => Ok(is_renamed(rt, path)? & fs::metadata(rt, name.as_str()).is_ok()),
-        Err(e) if e.kind() == ErrorKind::OutOfMemory => Err(e),
-        Err(_) => Ok(false),
+fn is_taken(rt: &HostRuntime, path: &[u8]) -> bool {
+    let mut space = Path::new();
+    match of_own(rt, path, &mut space) {
+        Ok(name) => is_renamed(rt, path) & fs::metadata(rt, name).is_ok(),
+        Err(_) => false,
     }
 }
 
 // Makes a file that is not there, to write it.
 fn create(rt: &HostRuntime, path: &[u8]) -> Result<File, Error> {
-    if is_taken(rt, path)? {
+    if is_taken(rt, path) {
         return Err(Error::from(ErrorKind::AlreadyExists));
     }
-    let name = of_new(rt, path)?;
+    let mut space = Path::new();
+    let name = of_new(rt, path, &mut space)?;
     OpenOptions::new()
         .write(true)
         .create_new(true)
-        .open(rt, name.as_str())
+        .open(rt, name)
 }
 
 // Opens a file to read and write it, with its bytes as they are.
 fn open_update(rt: &HostRuntime, path: &[u8]) -> Result<File, Error> {
-    let name = of_own(rt, path)?;
-    OpenOptions::new()
-        .read(true)
-        .write(true)
-        .open(rt, name.as_str())
+    let mut space = Path::new();
+    let name = of_own(rt, path, &mut space)?;
+    OpenOptions::new().read(true).write(true).open(rt, name)
 }
 
 // Opens a file to write it anew; it is made where it is missing.
 fn open_overwrite(rt: &HostRuntime, path: &[u8]) -> Result<File, Error> {
-    let name = of_folder(rt, path)?;
-    File::create(rt, name.as_str())
+    let mut space = Path::new();
+    let name = of_folder(rt, path, &mut space)?;
+    File::create(rt, name)
 }
 
 fn rename(rt: &HostRuntime, from: &[u8], to: &[u8]) -> Result<(), Error> {
-    let old = of_folder(rt, from)?;
-    let new = of_new(rt, to)?;
-    fs::rename(rt, old.as_str(), new.as_str())
+    let mut space = Path::new();
+    let old = of_folder(rt, from, &mut space)?;
+    let mut further = Path::new();
+    let new = of_new(rt, to, &mut further)?;
+    fs::rename(rt, old, new)
 }
 
 fn unlink(rt: &HostRuntime, path: &[u8]) {
-    if let Ok(name) = of_new(rt, path) {
-        let _ = fs::remove_file(rt, name.as_str());
+    let mut space = Path::new();
+    if let Ok(name) = of_new(rt, path, &mut space) {
+        let _ = fs::remove_file(rt, name);
     }
 }
 
@@ -237,11 +240,13 @@ fn any_number(rt: &HostRuntime) -> u32 {
 }
 
 // The name that the file has while it is written. It lies in the same folder, and is short, whatever the file's own name.
-fn part_name(rt: &HostRuntime, path: &[u8]) -> Result<Vec<u8>, AllocError> {
-    let mut name = Vec::from_slice(rt.alloc(), folder_of(path))?;
-    let number = any_number(rt);
-    name.extend_from_slice(format!(in rt.alloc(); ".linefiles-{number:08x}")?.as_bytes())?;
-    Ok(name)
+fn part_name(rt: &HostRuntime, path: &[u8]) -> Path {
+    let mut digits = [0u8; 16];
+    let length = io::hex(u64::from(any_number(rt)), 8, &mut digits);
+    let mut name = path_of(folder_of(path));
+    put(&mut name, b".linefiles-");
+    put(&mut name, lists::part(&digits, 0, length));
+    name
 }
 
 fn wrote(rt: &HostRuntime, path: &[u8], size: u64) -> Result<(), Failure> {
@@ -253,7 +258,7 @@ fn wrote(rt: &HostRuntime, path: &[u8], size: u64) -> Result<(), Failure> {
 
 // Writes a new file.
 fn write_new(rt: &HostRuntime, path: &[u8], bytes: &[u8]) -> Result<(), Failure> {
-    let part = part_name(rt, path)?;
+    let part = part_name(rt, path);
     write_by(rt, part.as_slice(), path, bytes)?;
     wrote(rt, path, bytes.len() as u64)
 }
@@ -311,7 +316,7 @@ fn write_missing(rt: &HostRuntime, path: &[u8], bytes: &[u8], e: Error) -> Resul
     if e.kind() != ErrorKind::NotFound {
         return Err(cannot_write(path, e));
     }
-    if is_link(rt, path)? {
+    if is_link(rt, path) {
         return write_through(rt, path, bytes);
     }
     write_new(rt, path, bytes)
@@ -334,7 +339,7 @@ pub fn write_file(rt: &HostRuntime, path: &[u8], bytes: &[u8], force: bool) -> R
         tell(b"linefiles: the name of the output is too long\n");
         return Err(Failure::Trouble);
     }
-    if is_folder(rt, path)? {
+    if is_folder(rt, path) {
         return Err(is_there(path, b" is a folder\n"));
     }
     if force {
@@ -372,7 +377,7 @@ fn write_anew(rt: &HostRuntime, own: &[u8], bytes: &[u8]) -> Result<(), Failure>
         tell(b"linefiles: the name of the disk is too long\n");
         return Err(Failure::Trouble);
     }
-    let part = part_name(rt, own)?;
+    let part = part_name(rt, own);
     write_beside(rt, part.as_slice(), own, bytes)
 }
 
@@ -396,13 +401,14 @@ pub fn replace_file(rt: &HostRuntime, path: &[u8], bytes: &[u8]) -> Result<(), F
 }
 
 fn make_folder(rt: &HostRuntime, path: &[u8]) -> Result<(), Error> {
-    let name = of_folder(rt, path)?;
-    fs::create_dir(rt, name.as_str())
+    let mut space = Path::new();
+    let name = of_folder(rt, path, &mut space)?;
+    fs::create_dir(rt, name)
 }
 
 // A folder to write files to, made where there is none. Where that cannot be, this is said.
 pub fn ready_folder(rt: &HostRuntime, path: &[u8]) -> Result<(), Failure> {
-    if is_folder(rt, path)? {
+    if is_folder(rt, path) {
         return Ok(());
     }
     if let Err(e) = make_folder(rt, path) {

@@ -1,42 +1,38 @@
 // What stands at a path.
-use crate::naming::{is_renamed, of_folder, of_own};
-use screen::Failure;
+use crate::naming::{Path, is_renamed, of_folder, of_own, path_of, put, text_of};
 use std::fs;
-use std::io::{Error, ErrorKind};
+use std::io::Error;
 
 // How many links are followed to a file.
 const MOST_LINKS: u8 = 40;
 
-// Nothing is reached where there is no text for a path; where there is no memory for it, that is not known.
-fn not_reached(e: Error) -> Result<bool, Failure> {
-    match e.kind() {
-        ErrorKind::OutOfMemory => Err(Failure::OutOfMemory),
-        _ => Ok(false),
-    }
-}
-
 // A folder has an entry for itself.
-pub fn is_folder(rt: &HostRuntime, path: &[u8]) -> Result<bool, Failure> {
+pub fn is_folder(rt: &HostRuntime, path: &[u8]) -> bool {
     if path.is_empty() | (4000 < path.len()) {
-        return Ok(false);
+        return false;
     }
-    match of_own(rt, path) {
-        Ok(name) => has_itself(rt, name),
-        Err(e) => not_reached(e),
+    let mut space = Path::new();
+    match of_own(rt, path, &mut space) {
+        Ok(name) => has_itself(rt, name.as_bytes()),
+        Err(_) => false,
     }
 }
 
-fn has_itself(rt: &HostRuntime, folder: String) -> Result<bool, Failure> {
-    let mut itself = folder;
-    itself.push_str("/.")?;
-    Ok(fs::metadata(rt, itself.as_str()).is_ok())
+fn has_itself(rt: &HostRuntime, folder: &[u8]) -> bool {
+    let mut itself = path_of(folder);
+    put(&mut itself, b"/.");
+    match text_of(itself.as_slice()) {
+        Ok(name) => fs::metadata(rt, name).is_ok(),
+        Err(_) => false,
+    }
 }
 
 // A link, whether or not it leads to a file.
-pub fn is_link(rt: &HostRuntime, path: &[u8]) -> Result<bool, Failure> {
-    match of_folder(rt, path) {
-        Ok(name) => Ok(leads(rt, name.as_str())),
-        Err(e) => not_reached(e),
+pub fn is_link(rt: &HostRuntime, path: &[u8]) -> bool {
+    let mut space = Path::new();
+    match of_folder(rt, path, &mut space) {
+        Ok(name) => leads(rt, name),
+        Err(_) => false,
     }
 }
 
@@ -47,28 +43,33 @@ fn leads(rt: &HostRuntime, name: &str) -> bool {
     }
 }
 
-// The path to which a link leads, from the link's own folder on; none where the path is no link.
-fn link_path(rt: &HostRuntime, path: &[u8]) -> Result<Option<Vec<u8>>, Error> {
-    if is_renamed(rt, path)? {
-        return Ok(None);
-    }
-    let name = of_folder(rt, path)?;
-    if !leads(rt, name.as_str()) {
-        return Ok(None);
-    }
-    let text = fs::read_link(rt, name.as_str())?;
-    let text = text.as_str().as_bytes();
-    let mut led = Vec::new(rt.alloc());
+// The path to which the text of a link leads, from the link's own folder on.
+fn led_path(path: &[u8], text: &[u8]) -> Path {
+    let mut led = Path::new();
     if !text.starts_with(b"/") {
-        led.extend_from_slice(folder_of(path))?;
+        put(&mut led, folder_of(path));
     }
-    led.extend_from_slice(text)?;
-    Ok(Some(led))
+    put(&mut led, text);
+    led
+}
+
+// The path to which a link leads; none where the path is no link.
+fn link_path(rt: &HostRuntime, path: &[u8]) -> Result<Option<Path>, Error> {
+    if is_renamed(rt, path) {
+        return Ok(None);
+    }
+    let mut space = Path::new();
+    let name = of_folder(rt, path, &mut space)?;
+    if !leads(rt, name) {
+        return Ok(None);
+    }
+    let text = fs::read_link(rt, name)?;
+    Ok(Some(led_path(path, text.as_str().as_bytes())))
 }
 
 // The path of the file to which a path leads, links being followed.
-pub fn file_path(rt: &HostRuntime, path: &[u8]) -> Result<Vec<u8>, Error> {
-    let mut at = Vec::from_slice(rt.alloc(), path)?;
+pub fn file_path(rt: &HostRuntime, path: &[u8]) -> Result<Path, Error> {
+    let mut at = path_of(path);
     for _ in 0..MOST_LINKS {
         match link_path(rt, at.as_slice())? {
             Some(next) => at = next,

@@ -4,9 +4,8 @@ ghost use Rattle.std.specs.Prelude.{◌<◌};
 use cells::{Drawing, Kind};
 use lists::{byte_at, part, word_at};
 use pen::colours::light;
-use pen::shown;
+use pen::{Picture, shown};
 use screen::kind_letters;
-use std::alloc::AllocError;
 use uses::name_of;
 
 // The files that are shown.
@@ -21,7 +20,7 @@ pub fn rows_of(files: u32) -> u32 {
 }
 
 // The squares of the key, and how many sectors of each there are.
-pub fn key(out: &mut String, d: Drawing) -> Result<(), AllocError> {
+pub fn key(out: &mut Picture, d: Drawing) {
     let y = 124 + 30 * u32::from(d.per);
     let vtoc = d.count(Kind::Vtoc);
     let pages = d.count(Kind::Pages);
@@ -35,11 +34,11 @@ pub fn key(out: &mut String, d: Drawing) -> Result<(), AllocError> {
 <rect x=\"203\" y=\"1\" width=\"27\" height=\"27\" class=\"g\" fill=\"#e4e4e4\" stroke=\"#444\"/><text x=\"216.5\" y=\"19\" class=\"l\">L1</text><text x=\"240\" y=\"19\">track/sector lists: {lists}</text>
 <rect x=\"203\" y=\"37\" width=\"27\" height=\"27\" class=\"j\" fill=\"#e4e4e4\" stroke=\"#e4e4e4\"/><text x=\"216.5\" y=\"55\" class=\"b\">1</text><text x=\"240\" y=\"55\">data of files: {data}</text>
 "
-    )?;
-    marks_key(out, d)
+    );
+    marks_key(out, d);
 }
 
-fn marks_key(out: &mut String, d: Drawing) -> Result<(), AllocError> {
+fn marks_key(out: &mut Picture, d: Drawing) {
     let free = d.count(Kind::Free);
     let lost = d.count(Kind::Lost);
     let shared = d.count(Kind::Shared);
@@ -52,11 +51,11 @@ fn marks_key(out: &mut String, d: Drawing) -> Result<(), AllocError> {
 <rect x=\"773\" y=\"37\" width=\"27\" height=\"27\" class=\"d\"/><text x=\"810\" y=\"55\">in a chain, free in the map: {loose}</text>
 </g>
 "
-    )
+    );
 }
 
 // A file: its number in its colour, then its lock, type, sectors and name. Files count from 1 here.
-fn file_line(out: &mut String, d: Drawing, file: u32, left: u32, top: u32) -> Result<(), AllocError>
+fn file_line(out: &mut Picture, d: Drawing, file: u32, left: u32, top: u32)
     requires left_small { left < 65536 }
     requires top_small { top < 65536 }
     requires file_some { 0 < file }
@@ -67,60 +66,59 @@ fn file_line(out: &mut String, d: Drawing, file: u32, left: u32, top: u32) -> Re
     write!(
         out,
         "<rect x=\"{left}\" y=\"{top}\" width=\"29\" height=\"17\" fill=\"{colour}\"/>"
-    )?;
+    );
     let middle = left + 14;
     write!(
         out,
         "<text x=\"{middle}.5\" y=\"{base}\" class=\"m t\">{file}</text>"
-    )?;
+    );
     if byte_at(entry, 3) != 0 {
         let x = left + 36;
-        write!(out, "<text x=\"{x}\" y=\"{base}\" class=\"t\">*</text>")?;
+        write!(out, "<text x=\"{x}\" y=\"{base}\" class=\"t\">*</text>");
     }
     let x = left + 50;
     let kind = kind_letters(byte_at(entry, 2));
     write!(
         out,
         "<text x=\"{x}\" y=\"{base}\" class=\"t\">{kind:<2}</text>"
-    )?;
+    );
     let x = left + 106;
     let sectors = word_at(entry, 35);
     write!(
         out,
         "<text x=\"{x}\" y=\"{base}\" class=\"r t\">{sectors}</text>"
-    )?;
+    );
     let x = left + 116;
-    write!(out, "<text x=\"{x}\" y=\"{base}\" class=\"t\">")?;
-    shown(out, d.alloc, name_of(d.entries, file), NAME_COLUMNS)?;
-    out.push_str("</text>\n")
+    write!(out, "<text x=\"{x}\" y=\"{base}\" class=\"t\">");
+    shown(out, name_of(d.entries, file), NAME_COLUMNS);
+    out.push_str("</text>\n");
 }
 
-fn file_lines(out: &mut String, d: Drawing, files: u32) -> Result<(), AllocError> {
+fn file_lines(out: &mut Picture, d: Drawing, files: u32) {
     let rows = rows_of(files);
     if rows == 0 {
-        return Ok(());
+        return;
     }
     for k in 0..files.min(MOST) {
-        file_line(out, d, k + 1, 352 * (k / rows), 12 + 20 * (k % rows))?;
+        file_line(out, d, k + 1, 352 * (k / rows), 12 + 20 * (k % rows));
     }
-    Ok(())
 }
 
 // The files, under the key; and how many more there are than are shown.
-pub fn file_key(out: &mut String, d: Drawing, files: u32) -> Result<(), AllocError> {
+pub fn file_key(out: &mut Picture, d: Drawing, files: u32) {
     if files == 0 {
-        return Ok(());
+        return;
     }
     let y = 222 + 30 * u32::from(d.per);
     write!(
         out,
         "<g transform=\"translate(58 {y})\">\n<text class=\"q\">Files in catalog order: number, lock (*), type, sectors stated, name</text>\n"
-    )?;
-    file_lines(out, d, files)?;
+    );
+    file_lines(out, d, files);
     if MOST < files {
         let y = 32 + 20 * (MOST / 3);
         let more = files - MOST;
-        write!(out, "<text y=\"{y}\">and {more} more</text>\n")?;
+        write!(out, "<text y=\"{y}\">and {more} more</text>\n");
     }
-    out.push_str("</g>\n")
+    out.push_str("</g>\n");
 }
