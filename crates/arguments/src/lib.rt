@@ -219,8 +219,9 @@ fn argument(rt: &HostRuntime, i: usize) -> Word {
 // Where words and options stand among the arguments. Behind `--` all are words.
 #[derive(Drop)]
 struct Places {
-    // the first words, as many as a command looks at; how many there are; how many of them are `-`
+    // the words behind the first `skipped`, as many as a command looks at; how many words there are; how many of them are `-`
     words: ArrayVec<usize, 80>,
+    skipped: usize,
     many: usize,
     dashes: usize,
     // each option where it is said first, in the order of OPTIONS; its value stands behind it
@@ -234,9 +235,10 @@ struct Places {
 
 impl Places {
     // Those of no arguments.
-    fn none() -> Places {
+    fn none(skipped: usize) -> Places {
         Places {
             words: ArrayVec::new(),
+            skipped,
             many: 0,
             dashes: 0,
             options: [None; 12],
@@ -247,7 +249,9 @@ impl Places {
     }
 
     fn add_word(&mut self, place: usize, word: &[u8]) {
-        let _ = self.words.try_push(place);
+        if self.skipped <= self.many {
+            let _ = self.words.try_push(place);
+        }
         self.many = self.many.saturating_add(1);
         if is_dash(word) {
             self.dashes = self.dashes.saturating_add(1);
@@ -289,19 +293,29 @@ impl Places {
     }
 }
 
-// What the argument before the first is: the first may be its value.
-fn places_before(rt: &HostRuntime, first: usize) -> Places {
-    let mut places = Places::none();
-    if let Some(before) = first.checked_sub(1) {
-        let option = Opt::of(argument(rt, before).as_slice());
-        places.awaits_value = option.is_some_and(|option| option.has_value());
-    }
-    places
+// Argument i is an option with a value. No option is longer than the space for it.
+fn has_value_behind(rt: &HostRuntime, i: usize) -> bool {
+    let mut space = [0u8; 8];
+    let length = rt.arg(i, &mut space).unwrap_or(0);
+    Opt::of(lists::part(&space, 0, length)).is_some_and(|option| option.has_value())
 }
 
-// The places of the arguments from `first` on. One that is too long is refused.
-fn places_of(rt: &HostRuntime, first: usize) -> Result<Places, Failure> {
-    let mut places = places_before(rt, first);
+// Argument i is the value of the option before it, which is no value itself.
+fn is_value(rt: &HostRuntime, i: usize) -> bool {
+    let mut value = false;
+    for before in (0..i).rev() {
+        if !has_value_behind(rt, before) {
+            break;
+        }
+        value = !value;
+    }
+    value
+}
+
+// The places of the arguments from `first` on, of the words those behind the first `skipped`. An argument that is too long is refused.
+fn places_of(rt: &HostRuntime, first: usize, skipped: usize) -> Result<Places, Failure> {
+    let mut places = Places::none(skipped);
+    places.awaits_value = is_value(rt, first);
     let mut space = io::buffer();
     for i in first..usize::MAX {
         match rt.arg(i, &mut space) {
@@ -320,6 +334,7 @@ fn places_of(rt: &HostRuntime, first: usize) -> Result<Places, Failure> {
 #[derive(Drop)]
 pub struct Arguments<'a> {
     rt: &'a HostRuntime,
+    first: usize,
     pub command: Command,
     places: Places,
 }
@@ -360,11 +375,27 @@ pub fn is_dash(word: &[u8]) -> bool {
 }
 
 impl<'a> Arguments<'a> {
+    // Word k, which is none of those whose place is kept. No command asks for one, so `word` keeps no room for this.
+    #[cold]
+    #[inline(never)]
+    fn far_word(&self, k: usize) -> Word {
+        if self.places.many <= k {
+            return Word::new();
+        }
+        let Ok(places) = places_of(self.rt, self.first, k) else {
+            return Word::new();
+        };
+        match places.words.as_slice().first() {
+            Some(place) => argument(self.rt, *place),
+            None => Word::new(),
+        }
+    }
+
     // Word k, the command being word 0; where there is none, it is empty.
     pub fn word(&self, k: usize) -> Word {
         match self.places.words.as_slice().get(k) {
             Some(place) => argument(self.rt, *place),
-            None => Word::new(),
+            None => self.far_word(k),
         }
     }
 
@@ -377,9 +408,12 @@ impl<'a> Arguments<'a> {
         self.places.of_option(option).is_some()
     }
 
-    // The value of an option that is said. Of one that is said twice the first counts.
+    // The value of an option that is said; that of one that takes none is empty. Of one that is said twice the first counts.
     pub fn value_of(&self, option: Opt) -> Option<Word> {
         let place = self.places.of_option(option)?;
+        if !option.has_value() {
+            return Some(Word::new());
+        }
         Some(argument(self.rt, place.saturating_add(1)))
     }
 
@@ -541,7 +575,7 @@ impl<'a> Arguments<'a> {
 
 // The arguments from `first` on; where something is wrong with them, this is said.
 pub fn read_arguments(rt: &HostRuntime, first: usize) -> Result<Arguments<'_>, Failure> {
-    let places = places_of(rt, first)?;
+    let places = places_of(rt, first, 0)?;
     if let Some(place) = places.odd {
         return Err(unknown_option(argument(rt, place).as_slice()));
     }
@@ -554,6 +588,7 @@ pub fn read_arguments(rt: &HostRuntime, first: usize) -> Result<Arguments<'_>, F
     };
     let arguments = Arguments {
         rt,
+        first,
         command,
         places,
     };

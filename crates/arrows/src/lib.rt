@@ -5,10 +5,10 @@ use catalog::{entry_list, entry_start, first_page, last_page, valid_file};
 use disk::{Place, link_of};
 use files::last_list;
 use lists::byte_at;
-use pen::Picture;
 use pen::colours::{CATALOG, dark};
 use screen::seen::Seen;
 use screen::vtoc;
+use std::fmt;
 
 // The point 11 from a on the way to b, in one direction, where the way is `far` in the longer one.
 fn near(a: u32, b: u32, far: u32) -> u32 {
@@ -53,17 +53,17 @@ struct Arrow {
 }
 
 impl Arrow {
-    fn draw(self, out: &mut Picture, file: Option<u32>) {
+    fn draw<W: fmt::Write>(self, out: &mut W, file: Option<u32>) {
         let (style, colour) = match file {
             Some(file) => ('e', dark(file)),
             None => ('c', CATALOG),
         };
         let Point { x, y } = self.begin;
-        write!(out, "<path d=\"M{x} {y}");
+        let _ = write!(out, "<path d=\"M{x} {y}");
         let Point { x, y } = self.bend;
-        write!(out, "Q{x} {y}");
+        let _ = write!(out, "Q{x} {y}");
         let Point { x, y } = self.end;
-        write!(out, " {x} {y}\" class=\"{style}\" stroke=\"{colour}\"/>\n");
+        let _ = write!(out, " {x} {y}\" class=\"{style}\" stroke=\"{colour}\"/>\n");
     }
 
     // An arrow from a sector to itself.
@@ -147,7 +147,14 @@ fn bend_of(per: u8, from: Point, to: Point, far: u32) -> Point {
 }
 
 // The arrows from list to list. Those behind a list that was seen before are drawn already.
-fn list_arrows(out: &mut Picture, disk: &[u8], per: u8, file: u32, first: Place, seen: &mut Seen) {
+fn list_arrows<W: fmt::Write>(
+    out: &mut W,
+    disk: &[u8],
+    per: u8,
+    file: u32,
+    first: Place,
+    seen: &mut Seen,
+) {
     let mut p = first;
     for _ in 0..560u16 {
         if last_list(disk, per, p) || seen.has(per, p) {
@@ -161,8 +168,8 @@ fn list_arrows(out: &mut Picture, disk: &[u8], per: u8, file: u32, first: Place,
 }
 
 // The arrows of the entries of page p that are in use: the files so far.
-fn page_arrows(
-    out: &mut Picture,
+fn page_arrows<W: fmt::Write>(
+    out: &mut W,
     disk: &[u8],
     per: u8,
     p: Place,
@@ -183,7 +190,7 @@ fn page_arrows(
 }
 
 // All arrows.
-pub fn draw_arrows(out: &mut Picture, disk: &[u8], per: u8) {
+pub fn draw_arrows<W: fmt::Write>(out: &mut W, disk: &[u8], per: u8) {
     let mut seen = Seen::none();
     let mut files = 0;
     let mut p = first_page(disk, per);

@@ -6,7 +6,8 @@ ghost use Rattle.std.specs.Prelude.{◌≤◌};
 use disk::{Place, Sector, Track};
 use holders::is_free;
 use pen::colours::{Colour, dark, light};
-use pen::{Picture, shown};
+use pen::shown;
+use std::fmt;
 use uses::{Holder, Uses, name_of};
 
 pub const TRACKS: u8 = 35;
@@ -77,59 +78,59 @@ impl Seat {
     }
 
     // Its square, the end left open.
-    fn square(self, out: &mut Picture) {
+    fn square<W: fmt::Write>(self, out: &mut W) {
         let x = self.left() + 1;
         let y = self.top() + 1;
         let style = self.style();
-        write!(
+        let _ = write!(
             out,
             "<rect x=\"{x}\" y=\"{y}\" width=\"27\" height=\"27\" class=\"{style}\""
         );
         if let Some(file) = self.file() {
             let fill = light(file);
             let edge = self.edge(file);
-            write!(out, " fill=\"{fill}\" stroke=\"{edge}\"");
+            let _ = write!(out, " fill=\"{fill}\" stroke=\"{edge}\"");
         }
-        out.push_str(">");
+        let _ = out.write_str(">");
     }
 
     // What it serves, in words.
-    fn say_use(self, out: &mut Picture, d: Drawing) {
-        match self.holder {
-            Some(Holder::Vtoc) => out.push_str("VTOC"),
-            Some(Holder::Page) => out.push_str("catalog page"),
+    fn say_use<W: fmt::Write>(self, out: &mut W, d: Drawing) {
+        let _ = match self.holder {
+            Some(Holder::Vtoc) => out.write_str("VTOC"),
+            Some(Holder::Page) => out.write_str("catalog page"),
             Some(Holder::List(file)) => {
-                out.push_str("list of ");
-                shown(out, name_of(d.entries, file), NAME_COLUMNS)
+                let _ = out.write_str("list of ");
+                return shown(out, name_of(d.entries, file), NAME_COLUMNS);
             },
-            Some(Holder::Data(file)) => shown(out, name_of(d.entries, file), NAME_COLUMNS),
-            None if self.free => out.push_str("free"),
-            None => out.push_str("used in the map, in no chain"),
-        }
+            Some(Holder::Data(file)) => return shown(out, name_of(d.entries, file), NAME_COLUMNS),
+            None if self.free => out.write_str("free"),
+            None => out.write_str("used in the map, in no chain"),
+        };
     }
 
     // The square with its title.
-    fn cell(self, out: &mut Picture, d: Drawing) {
+    fn cell<W: fmt::Write>(self, out: &mut W, d: Drawing) {
         let track = self.track;
         let sector = self.sector;
         self.square(out);
-        write!(out, "<title>{track}/{sector}: ");
+        let _ = write!(out, "<title>{track}/{sector}: ");
         self.say_use(out, d);
         if self.shared {
-            out.push_str(", shared");
+            let _ = out.write_str(", shared");
         }
         if self.is_loose() {
-            out.push_str(", free in the map");
+            let _ = out.write_str(", free in the map");
         }
-        out.push_str("</title></rect>\n");
+        let _ = out.write_str("</title></rect>\n");
     }
 
     // The red cross of a shared sector, and the red outline of one in a chain that the map calls free.
-    fn marks(self, out: &mut Picture) {
+    fn marks<W: fmt::Write>(self, out: &mut W) {
         if self.shared {
             let x = self.left() + 2;
             let y = self.top() + 2;
-            write!(
+            let _ = write!(
                 out,
                 "<path d=\"M{x} {y}l25 25m-25 0l25-25\" class=\"x\"/>\n"
             );
@@ -137,7 +138,7 @@ impl Seat {
         if self.is_loose() {
             let x = self.left() + 1;
             let y = self.top() + 1;
-            write!(
+            let _ = write!(
                 out,
                 "<rect x=\"{x}\" y=\"{y}\" width=\"27\" height=\"27\" class=\"d\"/>\n"
             );
@@ -145,7 +146,7 @@ impl Seat {
     }
 
     // The letters of a holder: V, C or L, or none, and the number of its file. They are small where there are four.
-    fn letters(self, out: &mut Picture) {
+    fn letters<W: fmt::Write>(self, out: &mut W) {
         let Some(holder) = self.holder else {
             return;
         };
@@ -157,14 +158,14 @@ impl Seat {
         };
         let x = self.left() + 14;
         let y = self.top() + 19;
-        write!(out, "<text x=\"{x}.5\" y=\"{y}\" class=\"{size}\"");
-        match holder.file() {
+        let _ = write!(out, "<text x=\"{x}.5\" y=\"{y}\" class=\"{size}\"");
+        let _ = match holder.file() {
             Some(file) => {
                 let colour = light(file);
                 write!(out, " stroke=\"{colour}\">{letter}{file}</text>\n")
             },
             None => write!(out, ">{letter}</text>\n"),
-        }
+        };
     }
 }
 
@@ -221,7 +222,7 @@ impl<'a> Drawing<'a> {
     }
 
     // One layer of all sectors.
-    pub fn layer(self, out: &mut Picture, layer: Layer) {
+    pub fn layer<W: fmt::Write>(self, out: &mut W, layer: Layer) {
         for track in 0..TRACKS {
             for sector in 0..self.per {
                 let seat = self.seat(track, sector);

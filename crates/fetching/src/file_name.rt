@@ -2,7 +2,10 @@
 // where several files have one name, and where a file has none.
 use arrayvec::ArrayVec;
 
-// A path; of a longer one what fits.
+// The longest path that is kept.
+const LONGEST: usize = 4096;
+
+// A path; for a longer one, one that no file is written to.
 pub type Path = ArrayVec<u8, 4096>;
 
 // The byte is not put as it is.
@@ -10,9 +13,14 @@ fn is_odd(b: u8) -> bool {
     (b < 32) | (b == b'/') | (125 < b)
 }
 
-// Puts text behind what stands there, where it fits.
+// Puts text behind what stands there. Where there is no room for it, zeros fill the room, so that the path is too long for a file.
 pub fn put(text: &[u8], out: &mut Path) {
-    let _ = out.try_extend_from_slice(text);
+    if out.try_extend_from_slice(text).is_ok() {
+        return;
+    }
+    for _ in out.len()..LONGEST {
+        let _ = out.try_push(0);
+    }
 }
 
 // Puts a byte.

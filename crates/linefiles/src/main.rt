@@ -339,12 +339,16 @@ fn run(rt: &HostRuntime, first: usize) -> Result<(), Failure> {
     act(rt, &arguments)
 }
 
-// The exit status of a run; what is wrong was said before.
+// The exit status of a run; what is wrong was said before, but that memory is short.
 fn status_of(done: Result<(), Failure>) -> u64 {
     match done {
         Ok(()) => 0,
         Err(Failure::Refused) => 1,
         Err(Failure::Trouble) => 2,
+        Err(Failure::OutOfMemory) => {
+            tell(b"linefiles: there is not enough memory\n");
+            2
+        },
     }
 }
 

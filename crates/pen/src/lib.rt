@@ -1,5 +1,8 @@
-// A picture as text, names and paths as they are written in it, and the colours of files.
+// A picture as text, names and paths as they are written in it, and the colours of files. What is drawn goes into any writer of text; what that does not take is left
+// out.
 #![tactic(auto)]
+
+ghost use Rattle.std.specs.Prelude.{◌≡◌, ◌++◌};
 
 pub mod colours;
 
@@ -7,7 +10,7 @@ use arrayvec::ArrayString;
 use lists::{byte_at, part};
 use std::fmt;
 
-// A picture as far as it is drawn. What does not fit is left out.
+// A picture as far as it is drawn, in room for the longest of a disk. What does not fit is left out.
 #[derive(Drop)]
 pub struct Picture {
     text: ArrayString<1048576>,
@@ -32,6 +35,15 @@ impl Picture {
 
     pub fn as_bytes(&self) -> &[u8] {
         self.text.as_str().as_bytes()
+    }
+}
+
+impl fmt::Write for Picture {
+    // The text stands behind what was drawn.
+    ghost write_str_gives = { λ s bytes t. t.text.bytes ≡ s.text.bytes ++ bytes };
+
+    fn write_str(&mut self, s: &str) -> fmt::Result {
+        fmt::Write::write_str(&mut self.text, s)
     }
 }
 
@@ -96,22 +108,20 @@ fn behind(s: &[u8], piece: Piece) -> &[u8] {
     part(s, piece.bytes(), s.len())
 }
 
-// A name or a path has no more bytes.
-const LONGEST: u16 = 4096;
-
-// A name or a path in at most so many columns, and `...` where it has more.
-pub fn shown(out: &mut Picture, s: &[u8], most: usize) {
+// A name or a path in at most so many columns, and `...` where it has more. No piece takes less than a byte.
+pub fn shown<W: fmt::Write>(out: &mut W, s: &[u8], most: usize) {
     let mut wide: usize = 0;
     let mut rest = s;
-    for _ in 0..LONGEST {
+    for _ in 0..s.len() {
         let Some(piece) = first_piece(rest) else {
             return;
         };
         wide = wide.saturating_add(piece.columns());
         if most < wide {
-            return out.push_str("...");
+            let _ = out.write_str("...");
+            return;
         }
-        write!(out, "{piece}");
+        let _ = write!(out, "{piece}");
         rest = behind(rest, piece);
     }
 }
@@ -120,7 +130,7 @@ pub fn shown(out: &mut Picture, s: &[u8], most: usize) {
 fn width(s: &[u8]) -> usize {
     let mut wide: usize = 0;
     let mut rest = s;
-    for _ in 0..LONGEST {
+    for _ in 0..s.len() {
         let Some(piece) = first_piece(rest) else {
             break;
         };
@@ -134,7 +144,7 @@ fn width(s: &[u8]) -> usize {
 fn end_of(s: &[u8], most: usize) -> &[u8] {
     let mut wide = width(s);
     let mut rest = s;
-    for _ in 0..LONGEST {
+    for _ in 0..s.len() {
         if wide <= most {
             break;
         }
@@ -148,10 +158,10 @@ fn end_of(s: &[u8], most: usize) -> &[u8] {
 }
 
 // A path by its end, in 80 columns and `...` before it where it has more.
-pub fn shown_end(out: &mut Picture, s: &[u8]) {
+pub fn shown_end<W: fmt::Write>(out: &mut W, s: &[u8]) {
     let end = end_of(s, 80);
     if end.len() < s.len() {
-        out.push_str("...");
+        let _ = out.write_str("...");
     }
     shown(out, end, 80);
 }

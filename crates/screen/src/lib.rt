@@ -6,8 +6,12 @@ pub mod names;
 pub mod seen;
 pub mod space;
 
+ghost use Rattle.std.specs.Prelude.{◌≡◌};
+ghost use Rattle.screen.specs.declared.Failure.TheVariants.{OutOfMemory};
+
 use disk::{Place, Sector, Track, sector_start};
 use outcome::Refusal;
+use std::alloc::{AllocError, AllocFailed};
 use std::fmt;
 use std::fmt::Write;
 use std::io::{Error, ErrorKind};
@@ -19,13 +23,31 @@ pub const STDOUT_FILENO: i32 = 1;
 
 pub const STDERR_FILENO: i32 = 2;
 
-// Why a command does not end well. What is wrong was said before.
+// Why a command does not end well. What is wrong was said before, but where memory is short.
 #[derive(Clone, Copy, Debug, PartialEq, Eq)]
 pub enum Failure {
     // a disk, stream, archive or plan is refused, a disk is not clean, or there is no space for a save
     Refused,
     // bad usage, or a file that cannot be read or written
     Trouble,
+    // the system gives no more memory
+    OutOfMemory,
+}
+
+impl From<AllocError> for Failure {
+    ghost from_gives = { λ _ e. e ≡ OutOfMemory };
+
+    fn from(_: AllocError) -> Failure {
+        Failure::OutOfMemory
+    }
+}
+
+impl<T: Drop> From<AllocFailed<T>> for Failure {
+    ghost from_gives = { λ _ e. e ≡ OutOfMemory };
+
+    fn from(_: AllocFailed<T>) -> Failure {
+        Failure::from(AllocError)
+    }
 }
 
 pub fn text(fd: i32, s: &[u8]) {

@@ -24,10 +24,10 @@ pub fn text_of(path: &[u8]) -> Result<&str, Error> {
     }
 }
 
-// The path that stands in the front of a space.
+// The path that stands in the front of a space; for a longer one than is taken a path that is too long, too.
 pub fn path_of(front: &[u8]) -> Path {
     let mut path = Path::new();
-    let _ = path.try_extend_from_slice(front);
+    put(&mut path, front);
     path
 }
 

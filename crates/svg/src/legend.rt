@@ -4,8 +4,9 @@ ghost use Rattle.std.specs.Prelude.{◌<◌};
 use cells::{Drawing, Kind};
 use lists::{byte_at, part, word_at};
 use pen::colours::light;
-use pen::{Picture, shown};
+use pen::shown;
 use screen::kind_letters;
+use std::fmt;
 use uses::name_of;
 
 // The files that are shown.
@@ -20,13 +21,13 @@ pub fn rows_of(files: u32) -> u32 {
 }
 
 // The squares of the key, and how many sectors of each there are.
-pub fn key(out: &mut Picture, d: Drawing) {
+pub fn key<W: fmt::Write>(out: &mut W, d: Drawing) {
     let y = 124 + 30 * u32::from(d.per);
     let vtoc = d.count(Kind::Vtoc);
     let pages = d.count(Kind::Pages);
     let lists = d.count(Kind::Lists);
     let data = d.count(Kind::Data);
-    write!(
+    let _ = write!(
         out,
         "<g transform=\"translate(58 {y})\">
 <rect x=\"1\" y=\"1\" width=\"27\" height=\"27\" class=\"v\"/><text x=\"14.5\" y=\"19\" class=\"w\">V</text><text x=\"38\" y=\"19\">VTOC: {vtoc}</text>
@@ -38,12 +39,12 @@ pub fn key(out: &mut Picture, d: Drawing) {
     marks_key(out, d);
 }
 
-fn marks_key(out: &mut Picture, d: Drawing) {
+fn marks_key<W: fmt::Write>(out: &mut W, d: Drawing) {
     let free = d.count(Kind::Free);
     let lost = d.count(Kind::Lost);
     let shared = d.count(Kind::Shared);
     let loose = d.count(Kind::Loose);
-    write!(
+    let _ = write!(
         out,
         "<rect x=\"442.5\" y=\".5\" width=\"28\" height=\"28\" fill=\"#fff\" stroke=\"#d0d0d0\"/><text x=\"480\" y=\"19\">free: {free}</text>
 <rect x=\"443\" y=\"37\" width=\"27\" height=\"27\" class=\"u\"/><text x=\"480\" y=\"55\">used in the map, in no chain: {lost}</text>
@@ -55,7 +56,7 @@ fn marks_key(out: &mut Picture, d: Drawing) {
 }
 
 // A file: its number in its colour, then its lock, type, sectors and name. Files count from 1 here.
-fn file_line(out: &mut Picture, d: Drawing, file: u32, left: u32, top: u32)
+fn file_line<W: fmt::Write>(out: &mut W, d: Drawing, file: u32, left: u32, top: u32)
     requires left_small { left < 65536 }
     requires top_small { top < 65536 }
     requires file_some { 0 < file }
@@ -63,38 +64,38 @@ fn file_line(out: &mut Picture, d: Drawing, file: u32, left: u32, top: u32)
     let entry = part(d.entries, 37 * (file - 1) as usize, 37);
     let base = top + 13;
     let colour = light(file);
-    write!(
+    let _ = write!(
         out,
         "<rect x=\"{left}\" y=\"{top}\" width=\"29\" height=\"17\" fill=\"{colour}\"/>"
     );
     let middle = left + 14;
-    write!(
+    let _ = write!(
         out,
         "<text x=\"{middle}.5\" y=\"{base}\" class=\"m t\">{file}</text>"
     );
     if byte_at(entry, 3) != 0 {
         let x = left + 36;
-        write!(out, "<text x=\"{x}\" y=\"{base}\" class=\"t\">*</text>");
+        let _ = write!(out, "<text x=\"{x}\" y=\"{base}\" class=\"t\">*</text>");
     }
     let x = left + 50;
     let kind = kind_letters(byte_at(entry, 2));
-    write!(
+    let _ = write!(
         out,
         "<text x=\"{x}\" y=\"{base}\" class=\"t\">{kind:<2}</text>"
     );
     let x = left + 106;
     let sectors = word_at(entry, 35);
-    write!(
+    let _ = write!(
         out,
         "<text x=\"{x}\" y=\"{base}\" class=\"r t\">{sectors}</text>"
     );
     let x = left + 116;
-    write!(out, "<text x=\"{x}\" y=\"{base}\" class=\"t\">");
+    let _ = write!(out, "<text x=\"{x}\" y=\"{base}\" class=\"t\">");
     shown(out, name_of(d.entries, file), NAME_COLUMNS);
-    out.push_str("</text>\n");
+    let _ = out.write_str("</text>\n");
 }
 
-fn file_lines(out: &mut Picture, d: Drawing, files: u32) {
+fn file_lines<W: fmt::Write>(out: &mut W, d: Drawing, files: u32) {
     let rows = rows_of(files);
     if rows == 0 {
         return;
@@ -105,12 +106,12 @@ fn file_lines(out: &mut Picture, d: Drawing, files: u32) {
 }
 
 // The files, under the key; and how many more there are than are shown.
-pub fn file_key(out: &mut Picture, d: Drawing, files: u32) {
+pub fn file_key<W: fmt::Write>(out: &mut W, d: Drawing, files: u32) {
     if files == 0 {
         return;
     }
     let y = 222 + 30 * u32::from(d.per);
-    write!(
+    let _ = write!(
         out,
         "<g transform=\"translate(58 {y})\">\n<text class=\"q\">Files in catalog order: number, lock (*), type, sectors stated, name</text>\n"
     );
@@ -118,7 +119,7 @@ pub fn file_key(out: &mut Picture, d: Drawing, files: u32) {
     if MOST < files {
         let y = 32 + 20 * (MOST / 3);
         let more = files - MOST;
-        write!(out, "<text y=\"{y}\">and {more} more</text>\n");
+        let _ = write!(out, "<text y=\"{y}\">and {more} more</text>\n");
     }
-    out.push_str("</g>\n");
+    let _ = out.write_str("</g>\n");
 }

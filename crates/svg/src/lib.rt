@@ -11,8 +11,9 @@ use cells::{Drawing, Layer, TRACKS};
 use disk::sectors_of;
 use files::DiskSurvey;
 use legend::{MOST, file_key, key, rows_of};
-use pen::{Picture, shown, shown_end};
+use pen::{shown, shown_end};
 use screen::space::catalog_space;
+use std::fmt;
 use uses::uses_of;
 
 // How high the picture is.
@@ -38,32 +39,34 @@ fn path_words(from: &[u8]) -> Option<&'static str> {
 }
 
 // The whole path.
-fn path(out: &mut Picture, from: &[u8]) {
-    match path_words(from) {
-        Some(words) => out.push_str(words),
-        None => shown(out, from, 1000000),
+fn path<W: fmt::Write>(out: &mut W, from: &[u8]) {
+    if let Some(words) = path_words(from) {
+        let _ = out.write_str(words);
+        return;
     }
+    shown(out, from, 1000000);
 }
 
 // Its end.
-fn path_end(out: &mut Picture, from: &[u8]) {
-    match path_words(from) {
-        Some(words) => out.push_str(words),
-        None => shown_end(out, from),
+fn path_end<W: fmt::Write>(out: &mut W, from: &[u8]) {
+    if let Some(words) = path_words(from) {
+        let _ = out.write_str(words);
+        return;
     }
+    shown_end(out, from);
 }
 
 // The front of the picture, with the path in the title and its end in the heading.
-fn front(out: &mut Picture, from: &[u8], high: u32) {
-    write!(
+fn front<W: fmt::Write>(out: &mut W, from: &[u8], high: u32) {
+    let _ = write!(
         out,
         "<svg xmlns=\"http://www.w3.org/2000/svg\" viewBox=\"0 0 1130 {high}\" role=\"img\" aria-labelledby=\"t\">\n<title id=\"t\">Sectors of "
     );
     path(out, from);
-    out.push_str(
+    let _ = out.write_str(
         "</title>\n<style>\nsvg{background:#fff}\ntext{font:13px ui-monospace,Menlo,Consolas,\"DejaVu Sans Mono\",monospace;fill:#222}\n.h{font-size:20px;font-weight:bold}\n.t,.l{font-size:12px}\n.s{font-size:9.5px}\n.m,.b,.l,.p,.s,.w{text-anchor:middle}\n.b,.l,.p,.s,.w{font-weight:bold;paint-order:stroke;stroke-width:2px;stroke-linejoin:round}\n.w{fill:#fff}\n.r{text-anchor:end}\n.q{fill:#666}\n.n{pointer-events:none}\n.o,.u,.v,.j{stroke-width:2px}\n.o{fill:#fff;stroke:#fff}\n.u{fill:#b4b4b4;stroke:#b4b4b4}\n.v{fill:#1f3566;stroke:#1f3566}\n.k,.g{stroke-width:2.5px}\n.k{fill:#d5def2;stroke:#1f3566}\n.p{stroke:#d5def2}\n.x{stroke:#d00000;stroke-width:1.8px;fill:none}\n.d{fill:none;stroke:#d00000;stroke-width:2.4px;stroke-dasharray:4 3}\n.c,.e{fill:none;stroke-width:1.4px;marker-end:url(#a)}\n.c{stroke-width:1.8px}\n</style>\n<defs><marker id=\"a\" viewBox=\"0 0 8 8\" refX=\"7\" refY=\"4\" markerWidth=\"8\" markerHeight=\"8\" markerUnits=\"userSpaceOnUse\" orient=\"auto\"><path d=\"M0 .5l8 3.5l-8 3.5z\" fill=\"context-stroke\"/></marker></defs>\n",
     );
-    write!(
+    let _ = write!(
         out,
         "<rect width=\"1130\" height=\"{high}\" fill=\"#fff\"/>\n<text x=\"58\" y=\"36\" class=\"h\">"
     );
@@ -76,25 +79,25 @@ fn plural(n: u64) -> &'static str {
 }
 
 // The line under the path.
-fn second_line(out: &mut Picture, per: u8, s: DiskSurvey) {
+fn second_line<W: fmt::Write>(out: &mut W, per: u8, s: DiskSurvey) {
     let volume = s.volume;
     let entries = s.entries;
     let links = s.links;
-    write!(
+    let _ = write!(
         out,
         "</text>\n<text x=\"58\" y=\"60\">volume {volume}, {per} sectors a track, {entries} file"
     );
-    out.push_str(plural(u64::from(entries)));
-    write!(out, ", {links} link");
-    out.push_str(plural(links));
-    out.push_str(" followed</text>\n");
+    let _ = out.write_str(plural(u64::from(entries)));
+    let _ = write!(out, ", {links} link");
+    let _ = out.write_str(plural(links));
+    let _ = out.write_str(" followed</text>\n");
 }
 
 // The numbers of the tracks, above.
-fn track_numbers(out: &mut Picture) {
+fn track_numbers<W: fmt::Write>(out: &mut W) {
     for track in 0..TRACKS {
         let x = 30 * u32::from(track) + 14;
-        write!(
+        let _ = write!(
             out,
             "<text x=\"{x}.5\" y=\"-8\" class=\"m q\">{track}</text>\n"
         );
@@ -102,10 +105,10 @@ fn track_numbers(out: &mut Picture) {
 }
 
 // The numbers of the sectors, at the left.
-fn sector_numbers(out: &mut Picture, per: u8) {
+fn sector_numbers<W: fmt::Write>(out: &mut W, per: u8) {
     for sector in 0..per {
         let y = 30 * u32::from(sector) + 19;
-        write!(
+        let _ = write!(
             out,
             "<text x=\"-10\" y=\"{y}\" class=\"r q\">{sector}</text>\n"
         );
@@ -113,34 +116,34 @@ fn sector_numbers(out: &mut Picture, per: u8) {
 }
 
 // The edges of the picture, and the ground of its sectors.
-fn edges(out: &mut Picture, per: u8) {
+fn edges<W: fmt::Write>(out: &mut W, per: u8) {
     let middle = 15 * u32::from(per);
-    write!(
+    let _ = write!(
         out,
         "<g transform=\"translate(58 100)\">\n<text x=\"-10\" y=\"-8\" class=\"r q\">track</text>\n<text x=\"-{middle}\" y=\"-38\" class=\"m q\" transform=\"rotate(-90)\">sector</text>\n"
     );
     track_numbers(out);
     sector_numbers(out, per);
     let high = 30 * u32::from(per) + 1;
-    write!(
+    let _ = write!(
         out,
         "<rect x=\"-1\" y=\"-1\" width=\"1051\" height=\"{high}\" fill=\"#d0d0d0\"/>\n"
     );
 }
 
 // The sectors, with all that is drawn upon them.
-fn sectors(out: &mut Picture, d: Drawing) {
+fn sectors<W: fmt::Write>(out: &mut W, d: Drawing) {
     edges(out, d.per);
     d.layer(out, Layer::Cells);
-    out.push_str("<g class=\"n\">\n");
+    let _ = out.write_str("<g class=\"n\">\n");
     d.layer(out, Layer::Marks);
     draw_arrows(out, d.disk, d.per);
     d.layer(out, Layer::Letters);
-    out.push_str("</g>\n</g>\n");
+    let _ = out.write_str("</g>\n</g>\n");
 }
 
 // Draws a disk that is not refused, with its survey. `from` is the disk's path.
-pub fn draw(disk: &[u8], s: DiskSurvey, from: &[u8], out: &mut Picture) {
+pub fn draw<W: fmt::Write>(disk: &[u8], s: DiskSurvey, from: &[u8], out: &mut W) {
     let per = sectors_of(disk);
     let uses = uses_of(disk);
     let mut entries = catalog_space();
@@ -156,5 +159,5 @@ pub fn draw(disk: &[u8], s: DiskSurvey, from: &[u8], out: &mut Picture) {
     sectors(out, drawing);
     key(out, drawing);
     file_key(out, drawing, s.entries);
-    out.push_str("</svg>\n");
+    let _ = out.write_str("</svg>\n");
 }
